@@ -1,0 +1,4 @@
+pub mod Fields
+pub mod Heads
+pub mod Entries
+pub mod Instructions
