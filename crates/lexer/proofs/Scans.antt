@@ -88,7 +88,7 @@ formed-long n z h = grind (arith, tells)
 formed-zero : (n z : ℕ) → 1 < n → z ≡ 48 → formed n z ≡ false
 formed-zero n z h e = grind (arith, tells)
 
-formed-right : (n z : ℕ) → 1 ≤ n → n ≤ 9 → (n ≡ 1) ⊎ (z ≡ 48 → ⊥) → formed n z ≡ true
+pub formed-right : (n z : ℕ) → 1 ≤ n → n ≤ 9 → (n ≡ 1) ⊎ (z ≡ 48 → ⊥) → formed n z ≡ true
 formed-right n z l h (inl e) = grind (arith, tells)
 formed-right n z l h (inr f) = grind (arith, tells)
 

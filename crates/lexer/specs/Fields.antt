@@ -40,8 +40,12 @@ leading (plain v) next = None
 leading (plus v) next = None
 leading register next = None
 
+abbrev pub leadingBy : Option Placed → Option (List ℕ × ℕ)
+leadingBy None = None
+leadingBy (Some p) = leading (p .token) (p .next)
+
 abbrev pub firstWord : List ℕ → Option (List ℕ × ℕ)
-firstWord line = elim (tokenAt line 0) [ None ↦ None | Some p ↦ leading (p .token) (p .next) ]
+firstWord line = leadingBy (tokenAt line 0)
 
 -- the place after a field that is the word `name`
 abbrev pub spelt : List ℕ → Said → ℕ → Option ℕ
@@ -50,8 +54,12 @@ spelt name (plain v) next = None
 spelt name (plus v) next = None
 spelt name register next = None
 
+abbrev pub speltBy : List ℕ → Option Placed → Option ℕ
+speltBy name None = None
+speltBy name (Some p) = spelt name (p .token) (p .next)
+
 abbrev pub wordField : List ℕ → List ℕ → ℕ → Option ℕ
-wordField name line at = elim (fieldAt line at) [ None ↦ None | Some p ↦ spelt name (p .token) (p .next) ]
+wordField name line at = speltBy name (fieldAt line at)
 
 -- a field of some kind: its value, if its bits hold it, and the place after it
 abbrev pub Field : Type 0 → Type 0

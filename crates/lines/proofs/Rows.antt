@@ -16,7 +16,7 @@ use Rattle.words.specs.declared.instruction.CodeOperand.{CodeOperand}
 use Rattle.words.specs.declared.instruction.Instruction.the-variants.{Get}
 use Rattle.words.specs.Instructions.{instructionWord}
 use Rattle.lexer.specs.Fields.{Field, stands, ends, cellField, codeField}
-use Rattle.lines.specs.Forms.{both, beside, then, closed, lastly, ahead, before, firstly, rowAt, row, trigger, rowWords, Eight, stored}
+use Rattle.lines.specs.Forms.{both, beside, thenBy, then, closed, lastly, ahead, before, firstly, rowAt, row, trigger, rowWords, Eight, stored}
 use Rattle.lines.specs.Lines.{made, get-line, statementWords, getWords}
 
 -- words in front of those of a row
@@ -120,7 +120,7 @@ same-some e = cc
 
 -- a GET line behind its cell
 pub get-fields : (line : List ℕ) (at next : ℕ) (cell : Option CellOperand) → cellField line at ≡ Some (cell, next) → lastly (then cellField row) line at ≡ closed line (beside cell (row line next))
-get-fields line at next cell e = ap (λ (o : Field CellOperand). closed line (elim o [ None ↦ None | Some p ↦ beside (p .0) (row line (p .1)) ])) e
+get-fields line at next cell e = ap (λ (o : Field CellOperand). closed line (thenBy row line o)) e
 
 -- a line that ends behind its row, or does not
 get-by : (cell : Option CellOperand) (vs : Option (List CodeOperand)) (count : ℕ) (words : Option (List ℕ)) → mapped (map trigger) vs ≡ mapped (take count) words → count ≤ 8 → Eight words → getWords cell count (mapped (take count) words) ≡ mapped statementWords (mapped (λ p. get-line (p .0) (p .1)) (both cell vs))

@@ -22,13 +22,21 @@ abbrev pub beside : {X Y : Type 0} → Option X → Field Y → Field (X × Y)
 beside x None = None
 beside x (Some q) = Some (both x (q .0), q .1)
 
+abbrev pub thenBy : {X Y : Type 0} → (List ℕ → ℕ → Field Y) → List ℕ → Field X → Field (X × Y)
+thenBy Q line None = None
+thenBy Q line (Some p) = beside (p .0) (Q line (p .1))
+
 -- a field, and the one after it
 abbrev pub then : {X Y : Type 0} → (List ℕ → ℕ → Field X) → (List ℕ → ℕ → Field Y) → List ℕ → ℕ → Field (X × Y)
-then P Q line at = elim (P line at) [ None ↦ None | Some p ↦ beside (p .0) (Q line (p .1)) ]
+then P Q line at = thenBy Q line (P line at)
+
+abbrev pub namedBy : {X : Type 0} → (List ℕ → ℕ → Field X) → List ℕ → Option ℕ → Field X
+namedBy P line None = None
+namedBy P line (Some next) = P line next
 
 -- a field behind a word
 abbrev pub named : {X : Type 0} → List ℕ → (List ℕ → ℕ → Field X) → List ℕ → ℕ → Field X
-named name P line at = elim (wordField name line at) [ None ↦ None | Some next ↦ P line next ]
+named name P line at = namedBy P line (wordField name line at)
 
 -- no field
 abbrev pub nothing : List ℕ → ℕ → Field (Unit {0})

@@ -37,12 +37,12 @@ headOf p = record { label = p .0; cells = p .1 .0; tasks = p .1 .1 }
 abbrev pub headFields : List ℕ → ℕ → Field (Bits 8 × (Bits 10 × Bits 10))
 headFields = then (numberField 8) (then (named (codes "cells") (numberField 10)) (named (codes "tasks") (numberField 10)))
 
-abbrev pub headBy : List ℕ → Option (List ℕ × ℕ) → Option (Option Head)
-headBy line None = None
-headBy line (Some p) = cond (sameBytes (p .0) (codes "lattice")) (made headOf (lastly headFields line (p .1))) None
+abbrev pub headFrom : List ℕ → Option (List ℕ × ℕ) → Option (Option Head)
+headFrom line None = None
+headFrom line (Some p) = cond (sameBytes (p .0) (codes "lattice")) (made headOf (lastly headFields line (p .1))) None
 
 abbrev pub headLine : List ℕ → Option (Option Head)
-headLine line = headBy line (firstWord line)
+headLine line = headFrom line (firstWord line)
 
 -- `task P N`, which load starts, or `idle P N`
 abbrev pub startedBy : List ℕ → Option Bool
@@ -58,8 +58,12 @@ abbrev pub entryBy : List ℕ → ℕ → Option Bool → Option (Option Entry)
 entryBy line at None = None
 entryBy line at (Some started) = made (entryOf started) (numberPair 13 14 line at)
 
+abbrev pub entryFrom : List ℕ → Option (List ℕ × ℕ) → Option (Option Entry)
+entryFrom line None = None
+entryFrom line (Some p) = entryBy line (p .1) (startedBy (p .0))
+
 abbrev pub entryLine : List ℕ → Option (Option Entry)
-entryLine line = elim (firstWord line) [ None ↦ None | Some p ↦ entryBy line (p .1) (startedBy (p .0)) ]
+entryLine line = entryFrom line (firstWord line)
 
 -- a line of code: an instruction with its codes, of which only a GET has any of its own
 pub data Statement : Type 0 where
@@ -118,8 +122,12 @@ abbrev pub byKeyword : List ℕ → ℕ → Option Keyword → Option (Option St
 byKeyword line at None = None
 byKeyword line at (Some k) = statementBy k line at
 
+abbrev pub codeFrom : List ℕ → Option (List ℕ × ℕ) → Option (Option Statement)
+codeFrom line None = None
+codeFrom line (Some p) = byKeyword line (p .1) (keywordIn (p .0))
+
 abbrev pub codeLine : List ℕ → Option (Option Statement)
-codeLine line = elim (firstWord line) [ None ↦ None | Some p ↦ byKeyword line (p .1) (keywordIn (p .0)) ]
+codeLine line = codeFrom line (firstWord line)
 
 -- the words that a line was read to
 abbrev pub told : LineWords → List ℕ

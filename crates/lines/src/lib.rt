@@ -42,7 +42,7 @@ struct Row {
 
 // The first word of a line of code.
 #[derive(Clone, Copy)]
-enum Keyword {
+pub enum Keyword {
     End,
     Put,
     Get,

@@ -20,10 +20,10 @@ use Rattle.text.specs.declared.refusal.Refusal.{Refusal}
 use Rattle.text.specs.Reading.{lineLen, linesOf, lineIn, ended, outcome, outcomeBy, prefixed, refused, reading, written, pasted}
 use Rattle.text.proofs.Cuts.{line, after, outcome-here}
 
-same-ok : {X Y : Type 0} {x y : X} → _≡_ {A = Result X Y} (Ok x) (Ok y) → x ≡ y
+pub same-ok : {X Y : Type 0} {x y : X} → _≡_ {A = Result X Y} (Ok x) (Ok y) → x ≡ y
 same-ok e = cc
 
-err-ok : {X Y P : Type 0} {x : X} {y : Y} → _≡_ {A = Result X Y} (Err y) (Ok x) → P
+pub err-ok : {X Y P : Type 0} {x : X} {y : Y} → _≡_ {A = Result X Y} (Err y) (Ok x) → P
 err-ok e = let z : _≡_ {A = ℕ} 0 1 = cc in absurd (omega arith)
 
 -- the words before place i stand in the buffer, and the lines from `at` on give the others

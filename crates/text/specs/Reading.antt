@@ -102,7 +102,7 @@ abbrev pub more : ℕ → Result (List ℕ) Refusal → Result ℕ Refusal
 more n (Ok ws) = Ok (n + length ws)
 more n (Err e) = Err e
 
-abbrev pub counted : Result (List ℕ) Refusal → Result ℕ Refusal
+abbrev pub counted : {E : Type 0} → Result (List ℕ) E → Result ℕ E
 counted (Ok ws) = Ok (length ws)
 counted (Err e) = Err e
 
@@ -111,6 +111,15 @@ abbrev pub pasted : List ℕ → ℕ → List ℕ → List ℕ
 pasted out at ws = take at out ++ (ws ++ drop (at + length ws) out)
 
 -- a buffer after reading: its front written, or as it was
-abbrev pub written : Result (List ℕ) Refusal → List ℕ → List ℕ
+abbrev pub written : {E : Type 0} → Result (List ℕ) E → List ℕ → List ℕ
 written (Ok ws) out = ws ++ drop (length ws) out
 written (Err e) out = out
+
+-- the same with each refusal as its number and its line
+abbrev pub answered : {X : Type 0} → Result X Refusal → Result X (ℕ × ℕ)
+answered (Ok x) = Ok x
+answered (Err e) = Err (numbered e)
+
+-- what reading a text gives where so many words find room: its words, or a number and a line
+abbrev pub readText : ℕ → List ℕ → Result (List ℕ) (ℕ × ℕ)
+readText room text = answered (reading room text)

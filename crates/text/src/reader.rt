@@ -3,7 +3,8 @@ ghost use mathlib.Core.Path.{_≡_};
 ghost use Prim.Native.Nat.{ℕ, _+_, _<_, _≤_};
 ghost use lib.ListN.{length, drop};
 ghost use Rattle.lines.specs.Lines.{told};
-ghost use Rattle.text.specs.Reading.{lineLen, reading, counted, written, pasted};
+ghost use Rattle.text.specs.Reading.{lineLen, reading, counted, written, pasted, answered, readText};
+ghost use Rattle.text.specs.Law.{Grammar};
 ghost use Rattle.std.specs.Results.{isOk};
 ghost use mathlib.Core.Bool.{true};
 use crate::Cause;
@@ -14,6 +15,15 @@ use lines::LineWords;
 
 // Reads a text into the front of the buffer, and answers how many words it has. A refusal leaves the buffer as it was.
 pub fn read(text: &[u8], words: &mut [u32]) -> Result<usize, Refusal>
+    ensures answer { λ r. ⌜ answered r ≡ counted (readText (length (now (words .entry))) (now (text .entry))) ⌝ }
+    ensures after { λ _. ⌜ now (words .exit) ≡ written (readText (length (now (words .entry))) (now (text .entry))) (now (words .entry)) ⌝ }
+    ensures grammar { λ r. ⌜ Grammar (now (text .entry)) (now (words .entry)) (now (words .exit)) r ⌝ }
+{
+    read_words(text, words)
+}
+
+// Nothing is written before the whole text is judged.
+fn read_words(text: &[u8], words: &mut [u32]) -> Result<usize, Refusal>
     ensures answer { λ r. ⌜ r ≡ counted (reading (length (now (words .entry))) (now (text .entry))) ⌝ }
     ensures after { λ r. ⌜ now (words .exit) ≡ written (reading (length (now (words .entry))) (now (text .entry))) (now (words .entry)) ⌝ }
 {
