@@ -17,7 +17,7 @@ use Rattle.text.specs.declared.refusal.Cause.{Cause}
 use Rattle.text.specs.declared.section.Section.the-variants.{Head, Tasks, Code}
 use Rattle.text.specs.declared.refusal.Cause.the-variants.{Grammar, Room}
 use Rattle.text.specs.declared.refusal.Refusal.{Refusal}
-use Rattle.text.specs.Reading.{lineLen, linesOf, onto, lineIn, outcome, outcomeBy, ended, prefixed, refused, more, pasted}
+use Rattle.text.specs.Reading.{lineLen, linesOf, onto, lineIn, outcome, outcomeBy, ended, prefixed, refused, pasted}
 
 pub lineLen-more : (text : List ℕ) (i : ℕ) → i < length text → (getD text i 0 ≡ 10 → ⊥) → lineLen (drop i text) ≡ lineLen (drop (i + 1) text) + 1
 lineLen-more text i lt ne = at-drop-more lineLen text i 0 lt ∙ cond-false (eqb (getD text i 0) 10) _ _ (ne-eqb _ _ ne)
@@ -49,6 +49,11 @@ lines-at text at lt = lines-next (drop at text) (omega (arith, length-drop at te
 lineLen-some : (bs : List ℕ) → 0 < length bs → 0 < lineLen bs
 lineLen-some [] h = absurd (omega arith)
 lineLen-some (c ∷ cs) h = cond-both (eqb c 10) 1 (lineLen cs + 1) (λ (n : ℕ). 0 < n) (λ _. omega arith) (λ _. omega arith)
+
+-- so many words, and those that are still to come
+abbrev pub more : ℕ → Result (List ℕ) Refusal → Result ℕ Refusal
+more n (Ok ws) = Ok (n + length ws)
+more n (Err e) = Err e
 
 pub more-prefixed : (n : ℕ) (ws : List ℕ) (o : Result (List ℕ) Refusal) → more n (prefixed ws o) ≡ more (n + length ws) o
 more-prefixed n ws (Ok vs) = ap Ok (omega (arith, length-append ws vs))

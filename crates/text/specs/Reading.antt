@@ -98,10 +98,6 @@ abbrev pub reading : ℕ → List ℕ → Result (List ℕ) Refusal
 reading room text = outcome (linesOf text) Head 1 room
 
 -- how many words there are
-abbrev pub more : ℕ → Result (List ℕ) Refusal → Result ℕ Refusal
-more n (Ok ws) = Ok (n + length ws)
-more n (Err e) = Err e
-
 abbrev pub counted : {E : Type 0} → Result (List ℕ) E → Result ℕ E
 counted (Ok ws) = Ok (length ws)
 counted (Err e) = Err e

@@ -16,7 +16,7 @@ pub enum Section {
 }
 
 // The words of a line, and the section of the line behind it.
-pub fn read_line(section: Section, line: &[u8]) -> Result<(LineWords, Section), Cause>
+pub(crate) fn read_line(section: Section, line: &[u8]) -> Result<(LineWords, Section), Cause>
     ensures { λ r. ⌜ toldLine r ≡ lineIn section (now (line .entry)) ⌝ }
 {
     match section {

@@ -5,7 +5,7 @@ ghost use Rattle.words.specs.Fields.{field as fieldOf, flag as flagOf};
 use bits::Bits;
 
 // The N bits of a word from bit `low` up.
-pub fn field<const N: u32>(word: u32, low: u32) -> Bits<N>
+pub(crate) fn field<const N: u32>(word: u32, low: u32) -> Bits<N>
     requires { ⌜ low < 32 ⌝ }
     ensures { λ r. ⌜ r ≡ fieldOf low N word ⌝ }
 {
@@ -13,7 +13,7 @@ pub fn field<const N: u32>(word: u32, low: u32) -> Bits<N>
 }
 
 // Whether the bit `at` of a word is set.
-pub fn flag(word: u32, at: u32) -> bool
+pub(crate) fn flag(word: u32, at: u32) -> bool
     requires { ⌜ at < 32 ⌝ }
     ensures { λ r. ⌜ r ≡ flagOf at word ⌝ }
 {

@@ -10,8 +10,8 @@ use Rattle.std.proofs.shelf.Lists.{at-drop-all}
 use Rattle.lines.specs.Lines.{told}
 use Rattle.text.specs.declared.refusal.Refusal.{Refusal}
 use Rattle.text.specs.declared.section.Section.{Section}
-use Rattle.text.specs.Reading.{linesOf, ended, outcome, more}
-use Rattle.text.proofs.Cuts.{line-some, outcome-bad, outcome-full, outcome-more, more-prefixed, ended-early}
+use Rattle.text.specs.Reading.{linesOf, ended, outcome}
+use Rattle.text.proofs.Cuts.{line-some, outcome-bad, outcome-full, outcome-more, more, more-prefixed, ended-early}
 use Rattle.text.proofs.reader.measure.Needs as need
 
 pub returns-in-Err : need.returns-in-Err

@@ -1,7 +1,8 @@
 use mathlib.Core.Path.{_≡_}
 use Prim.Native.Nat.{_+_, _-_, _≤_}
 use lib.ListN.{length, drop}
-use Rattle.text.specs.Reading.{linesOf, outcome, reading, counted, more}
+use Rattle.text.specs.Reading.{linesOf, outcome, reading, counted}
+use Rattle.text.proofs.Cuts.{more}
 use Rattle.text.proofs.reader.measure.Given as given
 
 abbrev pub Inv-loop-at : given.InvT-loop-at
