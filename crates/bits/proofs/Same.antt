@@ -50,8 +50,8 @@ under-wide n v wide small = omega (arith, pow-mono {i = 32} {j = n} wide)
 
 -- a mask keeps the lowest n bits, and where n is 32 or more they are all
 module _ (n v : ℕ) where
-  pub masked : n < 32 → bitAnd v ((1 * 2 ^ n) % 2 ^ 32 - 1) ≡ v % 2 ^ n
-  masked h = ap (λ (m : ℕ). bitAnd v (m - 1)) (one-shl n 32 h) ∙ and-mask v n
+  pub by-mask : n < 32 → bitAnd v ((1 * 2 ^ n) % 2 ^ 32 - 1) ≡ v % 2 ^ n
+  by-mask h = ap (λ (m : ℕ). bitAnd v (m - 1)) (one-shl n 32 h) ∙ and-mask v n
 
-  pub unmasked : v < 2 ^ n → v ≡ v % 2 ^ n
-  unmasked h = sym (mod-eq-of-lt h)
+  pub all-below : v < 2 ^ n → v ≡ v % 2 ^ n
+  all-below h = sym (mod-eq-of-lt h)

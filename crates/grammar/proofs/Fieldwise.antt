@@ -1,23 +1,21 @@
 -- The fields of a line are read exactly where they are printed.
-use mathlib.Core.Path.{_≡_, refl, sym, ap, subst, _∙_}
-use mathlib.Core.Bool.{Bool, true, false, cond, _&&_}
-use mathlib.Core.List.{List, [], _∷_, _++_}
-use mathlib.Core.Logic.{_⊎_, inl, inr, ⊎-elim}
-use Prim.Native.Nat.{ℕ, zero, suc, _+_, _-_, _^_, _≤_, _<_}
-use native.Mathlib.Nat.{add-zero, zero-add}
+use mathlib.Core.Path.{_≡_, refl, sym, ap, _∙_}
+use mathlib.Core.Bool.{Bool, true, false, cond}
+use mathlib.Core.List.{List, _∷_, _++_}
+use mathlib.Core.Logic.{inl}
+use Prim.Native.Nat.{ℕ, _+_, _-_, _^_, _≤_, _<_}
+use native.Mathlib.Nat.{add-zero}
 use native.Mathlib.Omega.{arith}
 use lib.Dec.{eqb, ltb}
-use lib.ListN.{length, getD, take, drop}
+use lib.ListN.{length, getD, drop}
 use lib.Pow.{pow-mono}
-use Rattle.std.specs.Joined.{joined}
 use Rattle.std.specs.Options.{mapped}
-use Rattle.std.specs.Written.{decimal}
 use Rattle.std.specs.shelf.Text.{sameBytes}
 use Rattle.std.specs.declared.option.Option.{Option}
 use Rattle.std.specs.declared.option.Option.the-variants.{Some, None}
-use Rattle.std.proofs.shelf.Lists.{append-assoc, drop-drop, drop-at, drop-more, length-drop, length-append, getD-drop, nil-from-length}
+use Rattle.std.proofs.shelf.Lists.{append-assoc, drop-drop, drop-at, drop-more, length-drop, length-append, getD-drop}
 use Rattle.std.proofs.shelf.Equals.{sameBytes-decides}
-use Rattle.std.proofs.shelf.Tests.{cond-true, cond-false, and-from, and-parts, and-right, lt-ltb, ltb-true, eq-eqb, ne-eqb, eqb-true}
+use Rattle.std.proofs.shelf.Tests.{cond-true, and-from, and-parts, lt-ltb, ltb-true, eq-eqb, eqb-true}
 use Rattle.bits.specs.declared.Bits.{Bits}
 use Rattle.bits.specs.Fits.{fitted}
 use Rattle.bits.proofs.Same.{fitted-value, fitted-from}
@@ -26,8 +24,8 @@ use Rattle.words.specs.declared.instruction.CellOperand.the-variants as cell
 use Rattle.words.specs.declared.instruction.CodeOperand.{CodeOperand}
 use Rattle.words.specs.declared.instruction.CodeOperand.the-variants as code
 use Rattle.lexer.specs.Tokens.{Said, word, plain, plus, register, Placed, tokenAt}
-use Rattle.lexer.specs.Fields.{Field, stands, ends, fieldAt, leading, leadingBy, firstWord, spelt, speltBy, wordField, kept, only, numberIn, cellIn, codeIn, numberField, cellField, codeField}
-use Rattle.lines.specs.Forms.{both, beside, thenBy, then, namedBy, named, nothing, closed, lastly, ahead, before, firstly, rowAt, row}
+use Rattle.lexer.specs.Fields.{Field, stands, fieldAt, spelt, speltBy, wordField, kept, only, numberIn, cellIn, codeIn, numberField, cellField, codeField}
+use Rattle.lines.specs.Forms.{both, beside, thenBy, then, namedBy, named, before}
 use Rattle.grammar.specs.Printed.{printedNumber, printedCell, printedCode}
 use Rattle.grammar.proofs.Numerals.{some-same, none-some}
 use Rattle.grammar.proofs.Spelling.{Stops, Wordlike, Proper, spelled, token-printed, token-read}

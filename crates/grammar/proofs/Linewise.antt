@@ -1,38 +1,31 @@
 -- A line is read exactly where it is printed.
-use mathlib.Core.Path.{_≡_, refl, sym, ap, subst, _∙_}
-use mathlib.Core.Bool.{Bool, true, false, cond, _&&_}
+use mathlib.Core.Path.{_≡_, refl, sym, ap, _∙_}
+use mathlib.Core.Bool.{Bool, true, false, cond}
 use mathlib.Core.List.{List, [], _∷_, _++_}
-use mathlib.Core.Logic.{_⊎_, inl, inr}
-use Prim.Native.Nat.{ℕ, _+_, _-_, _≤_, _<_}
-use native.Mathlib.Nat.{add-zero, zero-add}
+use mathlib.Core.Logic.{inl, inr}
+use Prim.Native.Nat.{ℕ, _+_, _-_, _≤_}
+use native.Mathlib.Nat.{zero-add}
 use native.Mathlib.Omega.{arith}
 use lib.Chars.{codes}
 use lib.Dec.{eqb, ltb}
 use lib.ListN.{length, getD, drop}
-use Rattle.std.specs.Joined.{joined}
-use Rattle.std.specs.Options.{mapped}
 use Rattle.std.specs.shelf.Text.{sameBytes}
 use Rattle.std.specs.declared.option.Option.{Option}
 use Rattle.std.specs.declared.option.Option.the-variants.{Some, None}
-use Rattle.std.proofs.shelf.Lists.{append-assoc, append-nil, drop-drop, drop-at, drop-more, length-drop, length-append, nil-from-length}
+use Rattle.std.proofs.shelf.Lists.{drop-drop, drop-at, drop-more, length-drop, nil-from-length}
 use Rattle.std.proofs.shelf.Equals.{sameBytes-decides}
-use Rattle.std.proofs.shelf.Tests.{cond-true, cond-false, cond-both, and-from, and-parts, eq-eqb, eqb-true, ltb-true}
+use Rattle.std.proofs.shelf.Tests.{cond-true, cond-both, and-from, and-parts, eq-eqb, eqb-true, ltb-true}
 use Rattle.bits.specs.declared.Bits.{Bits}
 use Rattle.words.specs.declared.head.Head.{Head}
 use Rattle.words.specs.declared.entry.Entry.{Entry}
-use Rattle.words.specs.declared.instruction.CellOperand.{CellOperand}
-use Rattle.words.specs.declared.instruction.CodeOperand.{CodeOperand}
 use Rattle.lexer.specs.Tokens.{Said, word, plain, plus, register, Placed, tokenAt}
-use Rattle.lexer.specs.Fields.{Field, stands, ends, leading, leadingBy, firstWord, numberField, cellField, codeField}
-use Rattle.lines.specs.Forms.{then, named, nothing, closed, lastly, row}
-use Rattle.lines.specs.Lines.{Body, made, headOf, headFields, headFrom, headLine, startedBy, numberPair, entryOf, entryBy, entryFrom, entryLine, Statement, end-line, put-line, get-line, freeze-line, if-line, has-line, start-line, let-line, loop-line, keywordIn, cellAndCode, statementBy, byKeyword, codeFrom, codeLine}
-use Rattle.lines.specs.declared.Keyword.{Keyword}
-use Rattle.lines.specs.declared.Keyword.the-variants.{End, Put, Get, Freeze, If, Has, Start, Let, Loop}
-use Rattle.grammar.specs.Printed.{printedNumber, printedCell, printedCode, lineOf, printedHead, printedEntry, printedStatement, Formed}
+use Rattle.lexer.specs.Fields.{Field, stands, ends, leading, leadingBy, firstWord, numberField}
+use Rattle.lines.specs.Forms.{then, named, closed, lastly}
+use Rattle.lines.specs.Lines.{made, headOf, headFields, headFrom, headLine, startedBy, numberPair, entryOf, entryBy, entryFrom, entryLine}
+use Rattle.grammar.specs.Printed.{printedNumber, lineOf, printedHead, printedEntry}
 use Rattle.grammar.proofs.Numerals.{some-same, none-some}
 use Rattle.grammar.proofs.Spelling.{Stops, Wordlike, spelled, token-printed, token-read}
-use Rattle.grammar.proofs.Fieldwise.{Reads, Any, byte-at, stands-at, number-reads, cell-reads, code-reads, cell-stops, code-stops, then-reads, named-reads}
-use Rattle.grammar.proofs.Rowwise.{Ends, row-reads}
+use Rattle.grammar.proofs.Fieldwise.{Reads, Any, stands-at, number-reads, then-reads, named-reads}
 
 -- the end of a line
 ends-at : (line : List ℕ) (at : ℕ) → drop at line ≡ 10 ∷ [] → ends line at ≡ true

@@ -1,9 +1,9 @@
 -- A row of codes is read exactly where it is printed, up to the end of its line.
 use mathlib.Core.Path.{_≡_, refl, sym, ap, subst, _∙_}
-use mathlib.Core.Bool.{Bool, true, false, cond}
+use mathlib.Core.Bool.{Bool, true, false}
 use mathlib.Core.List.{List, [], _∷_, _++_}
-use mathlib.Core.Logic.{_⊎_, inl, inr}
-use Prim.Native.Nat.{ℕ, zero, suc, _+_, _≤_, _<_}
+use mathlib.Core.Logic.{inr}
+use Prim.Native.Nat.{ℕ, zero, suc, _+_, _≤_}
 use native.Mathlib.Nat.{add-zero}
 use native.Mathlib.Omega.{arith}
 use lib.Dec.{eqb, ltb}
@@ -13,7 +13,7 @@ use Rattle.std.specs.Written.{decimal}
 use Rattle.std.specs.declared.option.Option.{Option}
 use Rattle.std.specs.declared.option.Option.the-variants.{Some, None}
 use Rattle.std.proofs.shelf.Lists.{append-assoc, drop-drop, drop-at, length-append, getD-drop}
-use Rattle.std.proofs.shelf.Tests.{cond-true, cond-false, and-right, ne-eqb}
+use Rattle.std.proofs.shelf.Tests.{cond-true, cond-false, and-right}
 use Rattle.words.specs.declared.instruction.CodeOperand.{CodeOperand}
 use Rattle.words.specs.declared.instruction.CodeOperand.the-variants as code
 use Rattle.lexer.specs.Fields.{Field, stands, codeField}

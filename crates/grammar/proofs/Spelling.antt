@@ -1,25 +1,25 @@
 -- A token is read exactly where it is spelled out.
 use mathlib.Core.Path.{_≡_, refl, sym, ap, subst, _∙_}
-use mathlib.Core.Bool.{Bool, true, false, cond, not, _&&_, _||_}
+use mathlib.Core.Bool.{Bool, true, false, cond, _&&_, _||_}
 use mathlib.Core.List.{List, [], _∷_, _++_}
-use mathlib.Core.Logic.{_⊎_, inl, inr, ⊎-elim}
+use mathlib.Core.Logic.{_⊎_, inl, inr}
 use Prim.Native.Nat.{ℕ, _+_, _-_, _^_, _≤_, _<_}
 use native.Mathlib.Nat.{add-zero}
 use native.Mathlib.Omega.{arith}
-use native.Mathlib.Numerals.{add-one}
-use lib.Dec.{eqb, leb}
+use lib.Dec.{eqb}
 use lib.ListN.{length, getD, take, drop}
 use Rattle.std.specs.Reads.{Digits}
 use Rattle.std.specs.Text.{asciiDigit, digitValue}
 use Rattle.std.specs.Written.{decimal}
 use Rattle.std.specs.declared.option.Option.{Option}
 use Rattle.std.specs.declared.option.Option.the-variants.{Some, None}
-use Rattle.std.proofs.shelf.Lists.{take-at, drop-at, drop-drop, drop-more, take-append-drop, length-take-le, length-drop, length-append, getD-append-left, getD-drop}
+use Rattle.std.proofs.shelf.Lists.{take-at, drop-drop, drop-more, take-append-drop, length-take-le, length-drop, getD-append-left, getD-drop}
 use Rattle.std.proofs.shelf.Numerals.{digit-from-value}
 use Rattle.std.proofs.shelf.Tests.{cond-true, cond-false, or-from, or-left, or-right, and-parts, and-left, eq-eqb, ne-eqb, eqb-true, eqb-false, cond-both}
 use Rattle.lexer.specs.Numbers.{numberAt}
 use Rattle.lexer.specs.Tokens.{Said, word, plain, plus, register, Placed, wide, whole, saidBy, between, fieldBy, tokenAt}
-use Rattle.grammar.proofs.Numerals.{some-same, none-some, digit-is, decimal-digits, decimal-long, number-printed, number-read}
+use Rattle.lexer.proofs.Scans.{digit-is}
+use Rattle.grammar.proofs.Numerals.{some-same, none-some, decimal-digits, decimal-long, number-printed, number-read}
 
 -- a space or a line's end
 abbrev pub Stops : List ℕ → Type 0

@@ -1,6 +1,6 @@
 -- A line of code is read exactly where it is printed.
 use mathlib.Core.Path.{_≡_, refl, sym, ap, subst, _∙_}
-use mathlib.Core.Bool.{Bool, true, false, cond}
+use mathlib.Core.Bool.{cond}
 use mathlib.Core.List.{List, [], _∷_, _++_}
 use mathlib.Core.Logic.{inl, inr}
 use Prim.Native.Nat.{ℕ, _+_, _≤_}
@@ -15,15 +15,14 @@ use Rattle.std.specs.declared.option.Option.the-variants.{Some, None}
 use Rattle.std.proofs.shelf.Lists.{append-assoc}
 use Rattle.std.proofs.shelf.Equals.{sameBytes-decides}
 use Rattle.std.proofs.shelf.Tests.{cond-both}
-use Rattle.bits.specs.declared.Bits.{Bits}
 use Rattle.words.specs.declared.instruction.CellOperand.{CellOperand}
 use Rattle.words.specs.declared.instruction.CodeOperand.{CodeOperand}
-use Rattle.lexer.specs.Fields.{Field, firstWord, numberField, cellField, codeField}
+use Rattle.lexer.specs.Fields.{Field, firstWord, cellField, codeField}
 use Rattle.lines.specs.Forms.{then, nothing, lastly, row}
-use Rattle.lines.specs.Lines.{made, numberPair, Statement, end-line, put-line, get-line, freeze-line, if-line, has-line, start-line, let-line, loop-line, keywordIn, cellAndCode, statementBy, byKeyword, codeFrom, codeLine}
+use Rattle.lines.specs.Lines.{made, Statement, end-line, put-line, get-line, freeze-line, if-line, has-line, start-line, let-line, loop-line, keywordIn, statementBy, byKeyword, codeFrom, codeLine}
 use Rattle.lines.specs.declared.Keyword.{Keyword}
 use Rattle.lines.specs.declared.Keyword.the-variants.{End, Put, Get, Freeze, If, Has, Start, Let, Loop}
-use Rattle.grammar.specs.Printed.{printedNumber, printedCell, printedCode, lineOf, printedStatement, Formed}
+use Rattle.grammar.specs.Printed.{printedCell, printedCode, lineOf, printedStatement, Formed}
 use Rattle.grammar.proofs.Numerals.{some-same, none-some}
 use Rattle.grammar.proofs.Spelling.{Stops, Wordlike}
 use Rattle.grammar.proofs.Fieldwise.{Reads, Any, number-reads, cell-reads, code-reads, cell-stops, code-stops, then-reads, then-some}

@@ -8,7 +8,7 @@ use lib.ListN.{length, getD, take}
 use Rattle.std.specs.Joined.{joined}
 use Rattle.std.specs.Text.{digitChar}
 use Rattle.std.specs.Written.{decimal}
-use Rattle.std.proofs.shelf.Lists.{append-assoc, append-nil, take-more, joined-more}
+use Rattle.std.proofs.shelf.Lists.{append-assoc, take-more, joined-more}
 use Rattle.std.proofs.shelf.Ways.{tells}
 use Rattle.hub.specs.Session.{hexDigits, wordLine}
 

@@ -1,7 +1,7 @@
 // The fields of a line: each stands behind one space.
 // None says that the line breaks the grammar there; a field that is read but too large for its bits has no value.
 ghost use mathlib.Core.Path.{_≡_};
-ghost use Prim.Native.Nat.{ℕ, _+_, _<_};
+ghost use Prim.Native.Nat.{_+_, _<_};
 ghost use Rattle.std.specs.shelf.Text.{sameBytes};
 ghost use Rattle.lexer.specs.Fields.{stands, ends, fieldAt, wordTold, firstWord, wordField, numberField, cellField, codeField};
 ghost use Rattle.lexer.specs.Tokens.{placed};
@@ -45,7 +45,7 @@ pub fn field<'a>(line: &'a [u8], at: usize) -> Option<Lexeme<'a>>
 pub fn spells(word: &[u8], name: &[u8]) -> bool
     ensures { λ r. ⌜ r ≡ sameBytes (now (word .entry)) (now (name .entry)) ⌝ }
 {
-    word == name
+    equal(word, name)
 }
 
 // The word that a line begins with, and the place after it.
@@ -121,4 +121,10 @@ fn fixed_code(n: u32) -> Option<CodeOperand>
     ensures { λ r. ⌜ r ≡ mapped code.Fixed (fitted 18 n) ⌝ }
 {
     Some(CodeOperand::Fixed(Bits::new(n)?))
+}
+
+fn equal(xs: &[u8], ys: &[u8]) -> bool
+    ensures { λ r. ⌜ r ≡ sameBytes (now (xs .entry)) (now (ys .entry)) ⌝ }
+{
+    xs == ys
 }

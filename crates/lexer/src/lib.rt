@@ -1,8 +1,9 @@
 // The fields of a text's lines, cut out of the text one by one.
 ghost use mathlib.Core.Path.{_≡_};
-ghost use Prim.Native.Nat.{ℕ, _+_, _-_, _<_, _≤_};
+ghost use Prim.Native.Nat.{_+_, _-_, _<_, _≤_};
 ghost use lib.ListN.{length, getD, drop};
-ghost use Rattle.lexer.specs.Numbers.{numberAt};
+ghost use Rattle.std.specs.Reads.{Digits, value};
+ghost use Rattle.lexer.specs.Numbers.{digitsAt, numberAt};
 ghost use Rattle.lexer.specs.Tokens.{placed, spoken, saidBy, tokenAt, wide};
 
 pub mod fields;
@@ -11,25 +12,14 @@ pub mod fields;
 pub fn number(text: &[u8], at: usize) -> Option<(u32, usize)>
     ensures { λ r. ⌜ r ≡ numberAt (now (text .entry)) at ⌝ }
 {
-    if at >= text.len() {
+    let digits = digits_at(text, at);
+    if digits.is_empty() || digits.len() > 9 {
         return None;
     }
-    let mut value: u32 = 0;
-    let mut next = at;
-    while next < text.len() && text[next].is_ascii_digit() {
-        if next - at == 9 {
-            return None;
-        }
-        value = value * 10 + (text[next] - b'0') as u32;
-        next += 1;
-    }
-    if next == at {
+    if digits[0] == b'0' && digits.len() > 1 {
         return None;
     }
-    if text[at] == b'0' && next - at > 1 {
-        return None;
-    }
-    Some((value, next))
+    Some((digits_value(digits), at + digits.len()))
 }
 
 // What a field says. A word is a part of the text.
@@ -63,6 +53,36 @@ pub fn next_token<'a>(text: &'a [u8], at: usize) -> Option<Lexeme<'a>>
         place: at,
         next: at + width,
     })
+}
+
+// The digits that stand at a place.
+fn digits_at<'a>(text: &'a [u8], at: usize) -> &'a [u8]
+    ensures is { λ r. ⌜ now r ≡ digitsAt (now (text .entry)) at ⌝ }
+    ensures within { λ r. ⌜ (0 < length (now r) → at + length (now r) ≤ length (now (text .entry))) ⌝ }
+    ensures all { λ r. ⌜ Digits 10 (now r) ⌝ }
+{
+    let mut end = at;
+    while end < text.len() && text[end].is_ascii_digit() {
+        end += 1;
+    }
+    if end == at {
+        &text[0..0]
+    } else {
+        &text[at..end]
+    }
+}
+
+// The number that nine digits or fewer write.
+fn digits_value(digits: &[u8]) -> u32
+    requires few { ⌜ length (now digits) ≤ 9 ⌝ }
+    requires all { ⌜ Digits 10 (now digits) ⌝ }
+    ensures { λ r. ⌜ r ≡ value 10 (now (digits .entry)) ⌝ }
+{
+    let mut value = 0;
+    for digit in digits {
+        value = value * 10 + (*digit - b'0') as u32;
+    }
+    value
 }
 
 // How long the field is that begins at `at`.

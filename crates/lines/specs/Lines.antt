@@ -14,11 +14,10 @@ use Rattle.words.specs.declared.head.Head.{Head}
 use Rattle.words.specs.declared.entry.Entry.{Entry}
 use Rattle.words.specs.declared.instruction.CellOperand.{CellOperand}
 use Rattle.words.specs.declared.instruction.CodeOperand.{CodeOperand}
-use Rattle.words.specs.declared.instruction.Instruction.{Instruction}
 use Rattle.words.specs.declared.instruction.Instruction.the-variants as instruction
 use Rattle.words.specs.Instructions.{instructionWord}
 use Rattle.lexer.specs.Fields.{Field, firstWord, numberField, cellField, codeField}
-use Rattle.lines.specs.Forms.{both, then, named, nothing, closed, lastly, row, trigger}
+use Rattle.lines.specs.Forms.{then, named, nothing, lastly, row, trigger}
 use Rattle.lines.specs.declared.Keyword.{Keyword}
 use Rattle.lines.specs.declared.Keyword.the-variants.{End, Put, Get, Freeze, If, Has, Start, Let, Loop}
 use Rattle.lines.specs.declared.wording.LineWords.{LineWords}

@@ -1,7 +1,7 @@
 // How the words of a line are made, and read.
 ghost use mathlib.Core.Path.{_≡_};
 ghost use mathlib.Core.List.{[], _∷_};
-ghost use Prim.Native.Nat.{ℕ, _≤_};
+ghost use Prim.Native.Nat.{_≤_};
 ghost use lib.ListN.{length, getD, take, drop};
 ghost use Rattle.lines.specs.Lines.{told};
 use crate::LineWords;

@@ -1,7 +1,7 @@
 // The lines of a text, one at a time: what each says, and the words it gives.
 // None says that a line breaks the grammar; one that fits it but has a number too large for its field has no value.
 ghost use mathlib.Core.Path.{_≡_};
-ghost use Prim.Native.Nat.{ℕ, _+_, _<_, _≤_};
+ghost use Prim.Native.Nat.{_+_, _<_, _≤_};
 ghost use Rattle.std.specs.Options.{mapped};
 ghost use mathlib.Core.List.{[], _∷_};
 ghost use lib.ListN.{take};

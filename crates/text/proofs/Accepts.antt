@@ -1,8 +1,7 @@
 -- A text is read exactly when it is a printed program.
 use mathlib.Core.Path.{_≡_, refl, sym, ap, subst, _∙_}
-use mathlib.Core.Bool.{Bool, true, false, cond}
 use mathlib.Core.List.{List, [], _∷_, _++_, map}
-use mathlib.Core.Logic.{_⊎_, inl, inr, ⊎-elim}
+use mathlib.Core.Logic.{_⊎_, ⊎-elim}
 use Prim.Native.Nat.{ℕ, zero, suc, _+_, _-_, _≤_, _<_}
 use native.Mathlib.Omega.{arith}
 use lib.Dec.{eqb, leb}
@@ -27,7 +26,7 @@ use Rattle.grammar.proofs.Statements.{statement-printed, statement-read}
 use Rattle.text.specs.declared.section.Section.{Section}
 use Rattle.text.specs.declared.section.Section.the-variants.{Head, Tasks, Code}
 use Rattle.text.specs.declared.refusal.Cause.{Cause}
-use Rattle.text.specs.declared.refusal.Cause.the-variants.{Grammar, Range, Room}
+use Rattle.text.specs.declared.refusal.Cause.the-variants.{Room}
 use Rattle.text.specs.declared.refusal.Refusal.{Refusal}
 use Rattle.text.specs.Reading.{lineBy, tasksLeft, headIn, entryIn, codeIn, lineIn, linesOf, ended, prefixed, refused, outcomeBy, outcome, reading}
 use Rattle.text.proofs.Writes.{same-ok, err-ok, one-line}

@@ -1,17 +1,15 @@
 -- The lines of a printed program are its lines.
-use mathlib.Core.Path.{_≡_, refl, sym, ap, subst, _∙_}
+use mathlib.Core.Path.{_≡_, refl, sym, ap, _∙_}
 use mathlib.Core.Bool.{Bool, true, false, cond}
 use mathlib.Core.List.{List, [], _∷_, _++_, map}
 use Prim.Native.Nat.{ℕ, _+_, _^_, _≤_, _<_}
 use native.Mathlib.Omega.{arith}
 use lib.Chars.{codes}
 use lib.Dec.{eqb}
-use lib.ListN.{length}
 use lib.Pow.{pow-mono}
 use Rattle.std.specs.Joined.{joined}
 use Rattle.std.specs.Reads.{Digits}
 use Rattle.std.specs.Written.{decimal}
-use Rattle.std.specs.shelf.Lists.{All}
 use Rattle.std.proofs.shelf.Lists.{append-assoc, append-nil}
 use Rattle.std.proofs.shelf.Numerals.{digit-from-value}
 use Rattle.std.proofs.shelf.Tests.{cond-true, cond-false, ne-eqb}

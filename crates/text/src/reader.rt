@@ -1,6 +1,6 @@
 // Reads the lines of a text one after the other. The first pass judges and counts, the second writes.
 ghost use mathlib.Core.Path.{_≡_};
-ghost use Prim.Native.Nat.{ℕ, _+_, _<_, _≤_};
+ghost use Prim.Native.Nat.{_+_, _<_, _≤_};
 ghost use lib.ListN.{length, drop};
 ghost use Rattle.lines.specs.Lines.{told};
 ghost use Rattle.text.specs.Reading.{lineLen, reading, counted, written, pasted, answered, readText};

@@ -1,6 +1,5 @@
 // Why a text is refused.
 ghost use mathlib.Core.Path.{_≡_};
-ghost use Prim.Native.Nat.{ℕ};
 ghost use Rattle.text.specs.Reading.{number};
 
 #[derive(Clone, Copy)]

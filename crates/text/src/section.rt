@@ -1,6 +1,6 @@
 // The parts of a text: its first line, its task lines and its code.
 ghost use mathlib.Core.Path.{_≡_};
-ghost use Prim.Native.Nat.{ℕ, _-_};
+ghost use Prim.Native.Nat.{_-_};
 ghost use Rattle.text.specs.Reading.{tasksLeft, headIn, entryIn, codeIn, lineIn, toldLine};
 use crate::Cause;
 use lines::LineWords;

@@ -1,6 +1,6 @@
 -- TASK, a word for each task: kind 14, started in bit 27, place of its first instruction in 26-14, argument in 13-0.
 use mathlib.Core.Path.{_≡_}
-use mathlib.Core.Bool.{Bool, cond}
+use mathlib.Core.Bool.{cond}
 use Prim.Native.Nat.{ℕ, _+_, _*_, _^_}
 use lib.Dec.{eqb}
 use Rattle.std.specs.declared.option.Option.{Option}

@@ -1,6 +1,6 @@
 -- The words of code. Bit 27 moves the cell by register R; bit 26 takes the code from R, beside a code field of 0.
 use mathlib.Core.Path.{_≡_}
-use mathlib.Core.Bool.{Bool, cond, not, _&&_}
+use mathlib.Core.Bool.{cond, not, _&&_}
 use Prim.Native.Nat.{ℕ, _+_, _*_, _^_}
 use lib.Dec.{eqb}
 use Rattle.std.specs.declared.option.Option.{Option}

@@ -1,6 +1,5 @@
 // TASK, a word for each task behind HEAD: whether load starts it, where its code begins, and its argument.
 ghost use mathlib.Core.Path.{_≡_};
-ghost use Prim.Native.Nat.{ℕ};
 ghost use Rattle.words.specs.Entries.{entryIn, entryWord, EntryOf};
 ghost use Rattle.std.specs.declared.option.Option.the-variants.{Some};
 use crate::Place;

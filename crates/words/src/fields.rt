@@ -1,6 +1,6 @@
 // The fields of a word.
 ghost use mathlib.Core.Path.{_≡_};
-ghost use Prim.Native.Nat.{ℕ, _<_};
+ghost use Prim.Native.Nat.{_<_};
 ghost use Rattle.words.specs.Fields.{field as fieldOf, flag as flagOf};
 use bits::Bits;
 

@@ -1,6 +1,5 @@
 // HEAD, a program's first word: its lattice's label, and how many cells and tasks it has.
 ghost use mathlib.Core.Path.{_≡_};
-ghost use Prim.Native.Nat.{ℕ};
 ghost use Rattle.words.specs.Heads.{headIn, headWord, HeadOf};
 ghost use Rattle.std.specs.declared.option.Option.the-variants.{Some};
 use crate::fields::field;

@@ -1,6 +1,5 @@
 // The words of code: an instruction each, and TRIG, which belongs to the GET before it.
 ghost use mathlib.Core.Path.{_≡_};
-ghost use Prim.Native.Nat.{ℕ};
 ghost use Rattle.words.specs.Instructions.{instructionIn, instructionWord, InstructionOf, cellIn, cellBits, codeIn, codeBits};
 ghost use Rattle.std.specs.declared.option.Option.the-variants.{Some};
 use crate::Place;

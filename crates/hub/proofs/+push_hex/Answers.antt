@@ -3,7 +3,6 @@ use mathlib.Core.List.{List, _++_}
 use Prim.Native.Nat.{ℕ, _%_, _<_}
 use native.Mathlib.Omega.{arith}
 use Rattle.std.specs.Of.String.{string-bytes}
-use Rattle.std.specs.Text.{digitChar}
 use Rattle.std.proofs.shelf.Lists.{append-nil}
 use Rattle.hub.proofs.Hex.{hex-none, hex-pushed, digit-ascii}
 use Rattle.hub.proofs.+push_hex.Needs as need

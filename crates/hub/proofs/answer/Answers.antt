@@ -1,6 +1,4 @@
-use mathlib.Core.Path.{_≡_, _∙_}
-use mathlib.Core.List.{List}
-use Rattle.std.specs.Of.String.{string-bytes}
+use mathlib.Core.Path.{_∙_}
 use Rattle.std.proofs.shelf.Results.{made-weaker}
 use Rattle.hub.proofs.Shows.{shown-read}
 use Rattle.hub.proofs.answer.Needs as need

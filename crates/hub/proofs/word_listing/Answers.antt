@@ -3,7 +3,6 @@ use mathlib.Core.List.{List}
 use Prim.Native.Nat.{ℕ}
 use lib.ListN.{length}
 use lib.Utf8.{encode}
-use native.Mathlib.Omega.{arith}
 use Rattle.std.specs.Joined.{joined}
 use Rattle.std.proofs.shelf.Lists.{take-all}
 use Rattle.hub.specs.Session.{wordLine}

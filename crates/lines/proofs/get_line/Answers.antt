@@ -1,4 +1,4 @@
-use mathlib.Core.Path.{_≡_, sym, ap, _∙_}
+use mathlib.Core.Path.{sym, ap, _∙_}
 use mathlib.Core.List.{List}
 use Prim.Native.Nat.{ℕ}
 use Rattle.std.specs.declared.option.Option.{Option}
@@ -6,7 +6,7 @@ use Rattle.std.specs.declared.option.Option.the-variants.{Some}
 use Rattle.words.specs.declared.instruction.CellOperand.{CellOperand}
 use Rattle.words.specs.declared.instruction.CodeOperand.{CodeOperand}
 use Rattle.lines.specs.Forms.{row}
-use Rattle.lines.specs.Lines.{Statement, made, told, get-line, statementWords}
+use Rattle.lines.specs.Lines.{made, told, get-line, statementWords}
 use Rattle.lines.proofs.Rows.{get-fields, get-ends, get-goes-on, get-broken}
 use Rattle.lines.proofs.get_line.Needs as need
 

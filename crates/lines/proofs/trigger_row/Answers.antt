@@ -1,8 +1,6 @@
 use mathlib.Core.Path.{sym, ap, subst, _∙_}
 use native.Mathlib.Omega.{arith}
 use Rattle.lines.specs.Forms.{rowTold, AtMostEight, Eight}
-use Rattle.lines.specs.declared.Row.{Row}
-use Rattle.std.specs.declared.option.Option.{Option}
 use Rattle.lines.proofs.Rows.{row-some, row-turn, row-broken, row-full, row-over, stored-eight}
 use Rattle.lines.proofs.trigger_row.Needs as need
 

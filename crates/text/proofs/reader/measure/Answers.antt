@@ -4,11 +4,9 @@ use Prim.Native.Nat.{ℕ, _+_, _-_}
 use native.Mathlib.Nat.{add-zero}
 use native.Mathlib.Omega.{arith}
 use lib.ListN.{length, drop}
-use Rattle.std.specs.declared.result.Result.{Result}
 use Rattle.std.specs.declared.result.Result.the-variants.{Ok}
 use Rattle.std.proofs.shelf.Lists.{at-drop-all}
 use Rattle.lines.specs.Lines.{told}
-use Rattle.text.specs.declared.refusal.Refusal.{Refusal}
 use Rattle.text.specs.declared.section.Section.{Section}
 use Rattle.text.specs.Reading.{linesOf, ended, outcome}
 use Rattle.text.proofs.Cuts.{line-some, outcome-bad, outcome-full, outcome-more, more, more-prefixed, ended-early}

@@ -1,8 +1,7 @@
-use mathlib.Core.Path.{sym, ap, _∙_}
+use mathlib.Core.Path.{ap, _∙_}
 use mathlib.Core.List.{List, _∷_}
 use Prim.Native.Nat.{ℕ}
 use native.Mathlib.Omega.{arith}
-use Rattle.lines.specs.Lines.{told}
 use Rattle.text.specs.Reading.{pasted}
 use Rattle.text.proofs.Cuts.{stored-words}
 use Rattle.text.proofs.reader.store.Needs as need
