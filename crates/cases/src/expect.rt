@@ -7,7 +7,7 @@ use text::read;
 const MARK: u32 = 0xdead_beef;
 
 // A buffer of `room` words has the text refused, and is left as it was.
-pub fn expect_refusal(
+pub(crate) fn expect_refusal(
     heap: Global,
     text: &[u8],
     room: usize,
@@ -23,7 +23,12 @@ pub fn expect_refusal(
 }
 
 // A buffer of `room` words has the words of the text in front, and the rest of it is left as it was.
-pub fn expect_words(heap: Global, text: &[u8], room: usize, expected: &[u32]) -> Result<(), Fail> {
+pub(crate) fn expect_words(
+    heap: Global,
+    text: &[u8],
+    room: usize,
+    expected: &[u32],
+) -> Result<(), Fail> {
     let mut words = vec![in heap; MARK; room]?;
     let Ok(count) = read(text, &mut words) else {
         return Err(Fail::new("the text was refused"));

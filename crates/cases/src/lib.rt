@@ -1,7 +1,9 @@
-// Tests of the text reader: what it refuses, and what it reads.
+// Tests of the reader and of what `grow` prints.
 #[cfg(test)]
 mod accepted;
 #[cfg(test)]
 mod expect;
 #[cfg(test)]
 mod refused;
+#[cfg(test)]
+mod sessions;

@@ -8,20 +8,6 @@ ghost use Rattle.lexer.specs.Tokens.{placed, spoken, saidBy, tokenAt, wide};
 
 pub mod fields;
 
-// The number that stands at a place, together with the place after it.
-pub fn number(text: &[u8], at: usize) -> Option<(u32, usize)>
-    ensures { λ r. ⌜ r ≡ numberAt (now (text .entry)) at ⌝ }
-{
-    let digits = digits_at(text, at);
-    if digits.is_empty() || digits.len() > 9 {
-        return None;
-    }
-    if digits[0] == b'0' && digits.len() > 1 {
-        return None;
-    }
-    Some((digits_value(digits), at + digits.len()))
-}
-
 // What a field says. A word is a part of the text.
 #[derive(Clone, Copy)]
 pub enum Token<'a> {
@@ -37,6 +23,20 @@ pub struct Lexeme<'a> {
     pub token: Token<'a>,
     pub place: usize,
     pub next: usize,
+}
+
+// The number that stands at a place, together with the place after it.
+pub fn number(text: &[u8], at: usize) -> Option<(u32, usize)>
+    ensures { λ r. ⌜ r ≡ numberAt (now (text .entry)) at ⌝ }
+{
+    let digits = digits_at(text, at);
+    if digits.is_empty() || digits.len() > 9 {
+        return None;
+    }
+    if digits[0] == b'0' && digits.len() > 1 {
+        return None;
+    }
+    Some((digits_value(digits), at + digits.len()))
 }
 
 // The token that begins at a place.

@@ -27,7 +27,7 @@ use words::Head;
 use words::Instruction;
 use words::Place;
 
-pub mod accessors;
+mod accessors;
 pub mod wording;
 
 pub use wording::LineWords;
@@ -140,6 +140,7 @@ fn keyword_in(word: &[u8]) -> Option<Keyword>
     }
 }
 
+// Both values, if both fit.
 fn both<X: Drop, Y: Drop>(x: Option<X>, y: Option<Y>) -> Option<(X, Y)>
     ensures { λ r. ⌜ r ≡ bothOf x y ⌝ }
 {
@@ -217,6 +218,7 @@ fn statement(keyword: Keyword, line: &[u8], at: usize) -> Option<Option<LineWord
     }
 }
 
+// The words of an instruction that has no triggers.
 fn single(instruction: Instruction) -> LineWords
     ensures { λ r. ⌜ told r ≡ instructionWord instruction ∷ [] ⌝ }
 {
@@ -315,6 +317,7 @@ fn trigger_row(line: &[u8], start: usize) -> Option<Row>
     })
 }
 
+// One trigger more, if its code fits.
 fn store(words: Option<[u32; 8]>, at: usize, code: Option<CodeOperand>) -> Option<[u32; 8]>
     requires { ⌜ at < 8 ⌝ }
     ensures { λ r. ⌜ r ≡ stored words at code ⌝ }
