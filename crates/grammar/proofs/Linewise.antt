@@ -21,7 +21,7 @@ use Rattle.words.specs.declared.entry.Entry.{Entry}
 use Rattle.lexer.specs.Tokens.{Said, word, plain, plus, register, Placed, tokenAt}
 use Rattle.lexer.specs.Fields.{Field, stands, ends, leading, leadingBy, firstWord, numberField}
 use Rattle.lines.specs.Forms.{then, named, closed, lastly}
-use Rattle.lines.specs.Lines.{made, headOf, headFields, headFrom, headLine, startedBy, numberPair, entryOf, entryBy, entryFrom, entryLine}
+use Rattle.lines.specs.Lines.{inside, headOf, headFields, headFrom, headLine, startedBy, numberPair, entryOf, entryBy, entryFrom, entryLine}
 use Rattle.grammar.specs.Printed.{printedNumber, lineOf, printedHead, printedEntry}
 use Rattle.grammar.proofs.Numerals.{some-same, none-some}
 use Rattle.grammar.proofs.Spelling.{Stops, Wordlike, spelled, token-printed, token-read}
@@ -43,10 +43,10 @@ ends-there line at e =
         let here = drop-more line at 0 (ltb-true at (length line) (parts .0)) in
         here ∙ (λ i. eqb-true (getD line at 0) 10 (parts .1) i ∷ nil-from-length (drop (at + 1) line) (omega (arith, ap length here)) i)
 
-pub made-some : {X Y : Type 0} (f : X → Y) (o : Option (Option X)) (y : Y) → made f o ≡ Some (Some y) → (x : X) × (o ≡ Some (Some x)) × (f x ≡ y)
-made-some f None y e = none-some e
-made-some f (Some None) y e = none-some (some-same e)
-made-some f (Some (Some x)) y e = (x, refl, some-same (some-same e))
+pub inside-some : {X Y : Type 0} (f : X → Y) (o : Option (Option X)) (y : Y) → inside f o ≡ Some (Some y) → (x : X) × (o ≡ Some (Some x)) × (f x ≡ y)
+inside-some f None y e = none-some e
+inside-some f (Some None) y e = none-some (some-same e)
+inside-some f (Some (Some x)) y e = (x, refl, some-same (some-same e))
 
 -- fields with which a line ends
 module _ {X : Type 0} {P : List ℕ → ℕ → Field X} {p : X → List ℕ} {G : X → Type 0} {S : List ℕ → Type 0} (one : Reads P p G S) where
@@ -128,7 +128,7 @@ pub head-printed : (h : Head) → headLine (printedHead h) ≡ Some (Some h)
 head-printed h =
     let z : Bits 8 × (Bits 10 × Bits 10) = (h .label, (h .cells, h .tasks)) in
     ap (headFrom (printedHead h)) (first-printed (codes "lattice") (printedFields z ++ (10 ∷ [])) like-lattice (inl refl))
-    ∙ ap (made headOf) (fields-printed head-reads (inr refl) (codes "lattice") z (tt, (tt, tt)))
+    ∙ ap (inside headOf) (fields-printed head-reads (inr refl) (codes "lattice") z (tt, (tt, tt)))
 
 pub head-read : (line : List ℕ) (h : Head) → headLine line ≡ Some (Some h) → line ≡ printedHead h
 head-read line h e = go (firstWord line) refl e
@@ -137,10 +137,10 @@ head-read line h e = go (firstWord line) refl e
     go None is e = none-some e
     go (Some q) is e = by (sameBytes (q .0) (codes "lattice")) refl e
       where
-        by : (b : Bool) → sameBytes (q .0) (codes "lattice") ≡ b → cond b (made headOf (lastly headFields line (q .1))) None ≡ Some (Some h) → line ≡ printedHead h
+        by : (b : Bool) → sameBytes (q .0) (codes "lattice") ≡ b → cond b (inside headOf (lastly headFields line (q .1))) None ≡ Some (Some h) → line ≡ printedHead h
         by false s e = none-some e
         by true s e =
-            let found = made-some headOf (lastly headFields line (q .1)) h e in
+            let found = inside-some headOf (lastly headFields line (q .1)) h e in
             fields-read head-reads line (codes "lattice") (q .0) (q .1) (found .0) is (sameBytes-decides (q .0) (codes "lattice") .0 s) (found .1) .0 ∙ ap printedHead (found .2)
 
 -- two numbers
@@ -157,10 +157,10 @@ like-idle = record { some = omega arith; clean = (refl, (refl, (refl, (refl, tt)
 entry-by : (started : Bool) (z : Bits 13 × Bits 14) → entryLine (printedEntry (entryOf started z)) ≡ Some (Some (entryOf started z))
 entry-by true z =
     ap (entryFrom (printedEntry (entryOf true z))) (first-printed (codes "task") ((printedNumber (z .0) ++ printedNumber (z .1)) ++ (10 ∷ [])) like-task (inl refl))
-    ∙ ap (made (entryOf true)) (fields-printed (pair-reads 13 14 (omega arith) (omega arith)) (inr refl) (codes "task") z (tt, tt))
+    ∙ ap (inside (entryOf true)) (fields-printed (pair-reads 13 14 (omega arith) (omega arith)) (inr refl) (codes "task") z (tt, tt))
 entry-by false z =
     ap (entryFrom (printedEntry (entryOf false z))) (first-printed (codes "idle") ((printedNumber (z .0) ++ printedNumber (z .1)) ++ (10 ∷ [])) like-idle (inl refl))
-    ∙ ap (made (entryOf false)) (fields-printed (pair-reads 13 14 (omega arith) (omega arith)) (inr refl) (codes "idle") z (tt, tt))
+    ∙ ap (inside (entryOf false)) (fields-printed (pair-reads 13 14 (omega arith) (omega arith)) (inr refl) (codes "idle") z (tt, tt))
 
 pub entry-printed : (e : Entry) → entryLine (printedEntry e) ≡ Some (Some e)
 entry-printed e = entry-by (e .started) (e .place, e .argument)
@@ -183,5 +183,5 @@ entry-read line t e = go (firstWord line) refl e
         by : (b : Option Bool) → startedBy (q .0) ≡ b → entryBy line (q .1) b ≡ Some (Some t) → line ≡ printedEntry t
         by None s e = none-some e
         by (Some started) s e =
-            let found = made-some (entryOf started) (numberPair 13 14 line (q .1)) t e in
+            let found = inside-some (entryOf started) (numberPair 13 14 line (q .1)) t e in
             fields-read (pair-reads 13 14 (omega arith) (omega arith)) line (cond started (codes "task") (codes "idle")) (q .0) (q .1) (found .0) is (started-word (q .0) started s) (found .1) .0 ∙ ap printedEntry (found .2)

@@ -19,7 +19,7 @@ use Rattle.words.specs.declared.instruction.CellOperand.{CellOperand}
 use Rattle.words.specs.declared.instruction.CodeOperand.{CodeOperand}
 use Rattle.lexer.specs.Fields.{Field, firstWord, cellField, codeField}
 use Rattle.lines.specs.Forms.{then, nothing, lastly, row}
-use Rattle.lines.specs.Lines.{made, Statement, end-line, put-line, get-line, freeze-line, if-line, has-line, start-line, let-line, loop-line, keywordIn, statementBy, byKeyword, codeFrom, codeLine}
+use Rattle.lines.specs.Lines.{inside, Statement, end-line, put-line, get-line, freeze-line, if-line, has-line, start-line, let-line, loop-line, keywordIn, statementBy, byKeyword, codeFrom, codeLine}
 use Rattle.lines.specs.declared.Keyword.{Keyword}
 use Rattle.lines.specs.declared.Keyword.the-variants.{End, Put, Get, Freeze, If, Has, Start, Let, Loop}
 use Rattle.grammar.specs.Printed.{printedCell, printedCode, lineOf, printedStatement, Formed}
@@ -27,7 +27,7 @@ use Rattle.grammar.proofs.Numerals.{some-same, none-some}
 use Rattle.grammar.proofs.Spelling.{Stops, Wordlike}
 use Rattle.grammar.proofs.Fieldwise.{Reads, Any, number-reads, cell-reads, code-reads, cell-stops, code-stops, then-reads, then-some}
 use Rattle.grammar.proofs.Rowwise.{Ends, row-reads}
-use Rattle.grammar.proofs.Linewise.{made-some, first-printed, fields-printed, fields-read, pair-reads}
+use Rattle.grammar.proofs.Linewise.{inside-some, first-printed, fields-printed, fields-read, pair-reads}
 
 -- the first word of each kind of line
 abbrev name : Keyword → List ℕ
@@ -85,7 +85,7 @@ operand-reads : Reads (then cellField codeField) (λ (z : CellOperand × CodeOpe
 operand-reads = then-reads cell-reads code-reads code-stops
 
 -- a line by its first word and its fields
-module _ {X : Type 0} {P : List ℕ → ℕ → Field X} {p : X → List ℕ} {G : X → Type 0} {S : List ℕ → Type 0} (one : Reads P p G S) (k : Keyword) (f : X → Statement) (by : (line : List ℕ) (at : ℕ) → statementBy k line at ≡ made f (lastly P line at)) (form : (x : X) → printedStatement (f x) ≡ lineOf (name k) (p x)) where
+module _ {X : Type 0} {P : List ℕ → ℕ → Field X} {p : X → List ℕ} {G : X → Type 0} {S : List ℕ → Type 0} (one : Reads P p G S) (k : Keyword) (f : X → Statement) (by : (line : List ℕ) (at : ℕ) → statementBy k line at ≡ inside f (lastly P line at)) (form : (x : X) → printedStatement (f x) ≡ lineOf (name k) (p x)) where
   line-printed : S (10 ∷ []) → (x : X) → G x → Stops (p x ++ (10 ∷ [])) → codeLine (printedStatement (f x)) ≡ Some (Some (f x))
   line-printed end x good stop =
       let line = lineOf (name k) (p x) in
@@ -93,11 +93,11 @@ module _ {X : Type 0} {P : List ℕ → ℕ → Field X} {p : X → List ℕ} {G
       ∙ ap (codeFrom line) (first-printed (name k) (p x ++ (10 ∷ [])) (wordlike k) stop)
       ∙ ap (byKeyword line (length (name k))) (keyword-of k)
       ∙ by line (length (name k))
-      ∙ ap (made f) (fields-printed one end (name k) x good)
+      ∙ ap (inside f) (fields-printed one end (name k) x good)
 
   line-read : (line w : List ℕ) (at : ℕ) (s : Statement) → firstWord line ≡ Some (w, at) → w ≡ name k → statementBy k line at ≡ Some (Some s) → (x : X) × (f x ≡ s) × (line ≡ printedStatement s) × G x
   line-read line w at s first is e =
-      let found = made-some f (lastly P line at) s (sym (by line at) ∙ e) in
+      let found = inside-some f (lastly P line at) s (sym (by line at) ∙ e) in
       let back = fields-read one line (name k) w at (found .0) first is (found .1) in
       (found .0, found .2, back .0 ∙ sym (form (found .0)) ∙ ap printedStatement (found .2), back .1)
 

@@ -29,6 +29,7 @@ ends line at = stands line at 10 && eqb (length line - at) 1
 abbrev pub fieldAt : List ℕ → ℕ → Option Placed
 fieldAt line at = cond (stands line at 32) (tokenAt line (at + 1)) None
 
+-- a word that was answered, with its bytes in place of the reference
 abbrev pub wordTold : Option (RefT (List ℕ) × ℕ) → Option (List ℕ × ℕ)
 wordTold None = None
 wordTold (Some p) = Some (p .0 .now, p .1)
@@ -65,26 +66,31 @@ wordField name line at = speltBy name (fieldAt line at)
 abbrev pub Field : Type 0 → Type 0
 Field X = Option (Option X × ℕ)
 
+-- what a field says, with the place after it
 abbrev pub kept : {X : Type 0} → ℕ → Option (Option X) → Field X
 kept next None = None
 kept next (Some v) = Some (v, next)
 
+-- a field that f takes
 abbrev pub only : {X : Type 0} → (Said → Option (Option X)) → Option Placed → Field X
 only f None = None
 only f (Some p) = kept (p .next) (f (p .token))
 
+-- a number for n bits
 abbrev pub numberIn : (n : ℕ) → Said → Option (Option (Bits n))
 numberIn n (word w) = None
 numberIn n (plain v) = Some (fitted n v)
 numberIn n (plus v) = None
 numberIn n register = None
 
+-- a cell: a number, or one that register R moves
 abbrev pub cellIn : Said → Option (Option CellOperand)
 cellIn (word w) = None
 cellIn (plain v) = Some (mapped cell.Fixed (fitted 8 v))
 cellIn (plus v) = Some (mapped cell.Moved (fitted 8 v))
 cellIn register = None
 
+-- a code: a number, or register R
 abbrev pub codeIn : Said → Option (Option CodeOperand)
 codeIn (word w) = None
 codeIn (plain v) = Some (mapped code.Fixed (fitted 18 v))

@@ -19,6 +19,7 @@ pub data Said : Type 0 where
   plus : ℕ → Said
   register : Said
 
+-- what a token of the code says
 abbrev pub said : Token → Said
 said (Word w) = word (w .now)
 said (Number n) = plain n
@@ -57,6 +58,7 @@ saidBy text at n c =
     (cond (eqb c 114 && eqb n 1) (Some register)
     (Some (word (take n (drop at text))))))
 
+-- a token from one place up to another
 abbrev pub between : ℕ → ℕ → Option Said → Option Placed
 between at end None = None
 between at end (Some t) = Some (record { token = t; place = at; next = end })
@@ -65,5 +67,6 @@ between at end (Some t) = Some (record { token = t; place = at; next = end })
 abbrev pub fieldBy : List ℕ → ℕ → ℕ → Option Placed
 fieldBy text at n = cond (eqb n 0) None (between at (at + n) (saidBy text at n (getD text at 0)))
 
+-- the token that begins at a place
 abbrev pub tokenAt : List ℕ → ℕ → Option Placed
 tokenAt text at = fieldBy text at (wide (drop at text))

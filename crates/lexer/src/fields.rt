@@ -1,5 +1,4 @@
-// The fields of a line: each stands behind one space.
-// None says that the line breaks the grammar there; a field that is read but too large for its bits has no value.
+// The fields of a line: each stands behind one space. A field function answers none where the line breaks the grammar.
 ghost use mathlib.Core.Path.{_≡_};
 ghost use Prim.Native.Nat.{_+_, _<_};
 ghost use Rattle.std.specs.shelf.Text.{sameBytes};
@@ -15,6 +14,9 @@ use crate::next_token;
 use words::Bits;
 use words::CellOperand;
 use words::CodeOperand;
+
+// What a field or a line says, if its numbers fit their bits. It waits until the grammar of the whole line is known.
+pub type Fitting<T> = Option<T>;
 
 // Whether a byte stands at a place.
 pub fn holds(line: &[u8], at: usize, byte: u8) -> bool
@@ -71,7 +73,7 @@ pub fn word_field(line: &[u8], at: usize, name: &[u8]) -> Option<usize>
 }
 
 // A number for a field of N bits.
-pub fn number_field<const N: u32>(line: &[u8], at: usize) -> Option<(Option<Bits<N>>, usize)>
+pub fn number_field<const N: u32>(line: &[u8], at: usize) -> Option<(Fitting<Bits<N>>, usize)>
     ensures { λ r. ⌜ r ≡ numberField N (now (line .entry)) at ⌝ }
 {
     let lexeme = field(line, at)?;
@@ -82,7 +84,7 @@ pub fn number_field<const N: u32>(line: &[u8], at: usize) -> Option<(Option<Bits
 }
 
 // A cell: a number, or `+` joined to one.
-pub fn cell_field(line: &[u8], at: usize) -> Option<(Option<CellOperand>, usize)>
+pub fn cell_field(line: &[u8], at: usize) -> Option<(Fitting<CellOperand>, usize)>
     ensures { λ r. ⌜ r ≡ cellField (now (line .entry)) at ⌝ }
 {
     let lexeme = field(line, at)?;
@@ -94,7 +96,7 @@ pub fn cell_field(line: &[u8], at: usize) -> Option<(Option<CellOperand>, usize)
 }
 
 // A code: a number, or `r` for register R.
-pub fn code_field(line: &[u8], at: usize) -> Option<(Option<CodeOperand>, usize)>
+pub fn code_field(line: &[u8], at: usize) -> Option<(Fitting<CodeOperand>, usize)>
     ensures { λ r. ⌜ r ≡ codeField (now (line .entry)) at ⌝ }
 {
     let lexeme = field(line, at)?;
@@ -105,19 +107,19 @@ pub fn code_field(line: &[u8], at: usize) -> Option<(Option<CodeOperand>, usize)
     }
 }
 
-fn fixed_cell(n: u32) -> Option<CellOperand>
+fn fixed_cell(n: u32) -> Fitting<CellOperand>
     ensures { λ r. ⌜ r ≡ mapped cell.Fixed (fitted 8 n) ⌝ }
 {
     Some(CellOperand::Fixed(Bits::new(n)?))
 }
 
-fn moved_cell(n: u32) -> Option<CellOperand>
+fn moved_cell(n: u32) -> Fitting<CellOperand>
     ensures { λ r. ⌜ r ≡ mapped cell.Moved (fitted 8 n) ⌝ }
 {
     Some(CellOperand::Moved(Bits::new(n)?))
 }
 
-fn fixed_code(n: u32) -> Option<CodeOperand>
+fn fixed_code(n: u32) -> Fitting<CodeOperand>
     ensures { λ r. ⌜ r ≡ mapped code.Fixed (fitted 18 n) ⌝ }
 {
     Some(CodeOperand::Fixed(Bits::new(n)?))

@@ -17,7 +17,7 @@ use Rattle.words.specs.declared.instruction.Instruction.the-variants.{Get}
 use Rattle.words.specs.Instructions.{instructionWord}
 use Rattle.lexer.specs.Fields.{Field, stands, ends, cellField, codeField}
 use Rattle.lines.specs.Forms.{both, beside, thenBy, then, closed, lastly, ahead, before, firstly, rowAt, row, trigger, rowWords, Eight, stored}
-use Rattle.lines.specs.Lines.{made, get-line, statementWords, getWords}
+use Rattle.lines.specs.Lines.{inside, get-line, statementWords, getWords}
 
 -- words in front of those of a row
 abbrev pub joined : Option (List ℕ) → Option (List ℕ) → Option (List ℕ)
@@ -133,20 +133,20 @@ get-by (Some c) (Some vs) count (Some ws) same few long =
     let n : count ≡ length vs = omega (arith, length-map vs trigger, ap length codes, length-take-le count ws (omega arith)) in
     (λ i. Some (instructionWord (Get c (lowest 4 (n i))) ∷ sym codes i))
 
-pub get-ends : (line : List ℕ) (cell : Option CellOperand) (o : Field (List CodeOperand)) (count next : ℕ) (words : Option (List ℕ)) → rowWords o ≡ Some (mapped (take count) words, next) → count ≤ 8 → Eight words → ends line next ≡ true → Some (getWords cell count (mapped (take count) words)) ≡ made statementWords (made (λ p. get-line (p .0) (p .1)) (closed line (beside cell o)))
+pub get-ends : (line : List ℕ) (cell : Option CellOperand) (o : Field (List CodeOperand)) (count next : ℕ) (words : Option (List ℕ)) → rowWords o ≡ Some (mapped (take count) words, next) → count ≤ 8 → Eight words → ends line next ≡ true → Some (getWords cell count (mapped (take count) words)) ≡ inside statementWords (inside (λ p. get-line (p .0) (p .1)) (closed line (beside cell o)))
 get-ends line cell None count next words e few long end = let z : _≡_ {A = ℕ} 0 1 = cc in absurd (omega arith)
 get-ends line cell (Some q) count next words e few long end =
     let same : mapped (map trigger) (q .0) ≡ mapped (take count) words = ap (λ (p : Option (List ℕ) × ℕ). p .0) (same-some e) in
     let at : q .1 ≡ next = ap (λ (p : Option (List ℕ) × ℕ). p .1) (same-some e) in
     ap Some (get-by cell (q .0) count words same few long)
-    ∙ ap (λ o. made statementWords (made (λ p. get-line (p .0) (p .1)) o)) (sym (cond-true (ends line (q .1)) _ _ (ap (ends line) at ∙ end)))
+    ∙ ap (λ o. inside statementWords (inside (λ p. get-line (p .0) (p .1)) o)) (sym (cond-true (ends line (q .1)) _ _ (ap (ends line) at ∙ end)))
 
-pub get-goes-on : (line : List ℕ) (cell : Option CellOperand) (o : Field (List CodeOperand)) (words : Option (List ℕ)) (next : ℕ) → rowWords o ≡ Some (words, next) → ends line next ≡ false → None ≡ made statementWords (made (λ p. get-line (p .0) (p .1)) (closed line (beside cell o)))
+pub get-goes-on : (line : List ℕ) (cell : Option CellOperand) (o : Field (List CodeOperand)) (words : Option (List ℕ)) (next : ℕ) → rowWords o ≡ Some (words, next) → ends line next ≡ false → None ≡ inside statementWords (inside (λ p. get-line (p .0) (p .1)) (closed line (beside cell o)))
 get-goes-on line cell None words next e end = let z : _≡_ {A = ℕ} 0 1 = cc in absurd (omega arith)
 get-goes-on line cell (Some q) words next e end =
     let at : q .1 ≡ next = ap (λ (p : Option (List ℕ) × ℕ). p .1) (same-some e) in
-    ap (λ o. made statementWords (made (λ p. get-line (p .0) (p .1)) o)) (sym (cond-false (ends line (q .1)) _ _ (ap (ends line) at ∙ end)))
+    ap (λ o. inside statementWords (inside (λ p. get-line (p .0) (p .1)) o)) (sym (cond-false (ends line (q .1)) _ _ (ap (ends line) at ∙ end)))
 
-pub get-broken : (line : List ℕ) (cell : Option CellOperand) (o : Field (List CodeOperand)) → rowWords o ≡ None → None ≡ made statementWords (made (λ p. get-line (p .0) (p .1)) (closed line (beside cell o)))
+pub get-broken : (line : List ℕ) (cell : Option CellOperand) (o : Field (List CodeOperand)) → rowWords o ≡ None → None ≡ inside statementWords (inside (λ p. get-line (p .0) (p .1)) (closed line (beside cell o)))
 get-broken line cell None e = refl
 get-broken line cell (Some q) e = let z : _≡_ {A = ℕ} 0 1 = cc in absurd (omega arith)

@@ -13,11 +13,13 @@ use Rattle.words.specs.Instructions.{instructionWord}
 use Rattle.lexer.specs.Fields.{Field, stands, ends, wordField, codeField}
 use Rattle.lines.specs.declared.Row.{Row}
 
+-- two values, if both fit
 abbrev pub both : {X Y : Type 0} → Option X → Option Y → Option (X × Y)
 both None y = None
 both (Some x) None = None
 both (Some x) (Some y) = Some (x, y)
 
+-- a value beside the field behind it
 abbrev pub beside : {X Y : Type 0} → Option X → Field Y → Field (X × Y)
 beside x None = None
 beside x (Some q) = Some (both x (q .0), q .1)
@@ -50,6 +52,7 @@ closed line (Some p) = cond (ends line (p .1)) (Some (p .0)) None
 abbrev pub lastly : {X : Type 0} → (List ℕ → ℕ → Field X) → List ℕ → ℕ → Option (Option X)
 lastly P line at = closed line (P line at)
 
+-- a value ahead of others, if all fit
 abbrev pub ahead : {X : Type 0} → Option X → Option (List X) → Option (List X)
 ahead None xs = None
 ahead (Some x) None = None
@@ -59,6 +62,7 @@ abbrev pub before : {X : Type 0} → Option X → Field (List X) → Field (List
 before x None = None
 before x (Some q) = Some (ahead x (q .0), q .1)
 
+-- a field, and more of its kind behind it
 abbrev pub firstly : {X : Type 0} → Field X → (ℕ → Field (List X)) → Field (List X)
 firstly None more = None
 firstly (Some p) more = before (p .0) (more (p .1))

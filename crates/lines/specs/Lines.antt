@@ -26,8 +26,9 @@ use Rattle.lines.specs.declared.wording.LineWords.{LineWords}
 abbrev pub Body : Type 0 → Type 0
 Body X = List ℕ → ℕ → Option (Option X)
 
-abbrev pub made : {X Y : Type 0} → (X → Y) → Option (Option X) → Option (Option Y)
-made f o = mapped (mapped f) o
+-- what is made of a value, where there is one
+abbrev pub inside : {X Y : Type 0} → (X → Y) → Option (Option X) → Option (Option Y)
+inside f o = mapped (mapped f) o
 
 -- `lattice L cells N tasks T`
 abbrev pub headOf : Bits 8 × (Bits 10 × Bits 10) → Head
@@ -38,7 +39,7 @@ headFields = then (numberField 8) (then (named (codes "cells") (numberField 10))
 
 abbrev pub headFrom : List ℕ → Option (List ℕ × ℕ) → Option (Option Head)
 headFrom line None = None
-headFrom line (Some p) = cond (sameBytes (p .0) (codes "lattice")) (made headOf (lastly headFields line (p .1))) None
+headFrom line (Some p) = cond (sameBytes (p .0) (codes "lattice")) (inside headOf (lastly headFields line (p .1))) None
 
 abbrev pub headLine : List ℕ → Option (Option Head)
 headLine line = headFrom line (firstWord line)
@@ -47,6 +48,7 @@ headLine line = headFrom line (firstWord line)
 abbrev pub startedBy : List ℕ → Option Bool
 startedBy w = cond (sameBytes w (codes "task")) (Some true) (cond (sameBytes w (codes "idle")) (Some false) None)
 
+-- two numbers, with which the line ends
 abbrev pub numberPair : (m n : ℕ) → Body (Bits m × Bits n)
 numberPair m n = lastly (then (numberField m) (numberField n))
 
@@ -55,7 +57,7 @@ entryOf started p = record { started = started; place = p .0; argument = p .1 }
 
 abbrev pub entryBy : List ℕ → ℕ → Option Bool → Option (Option Entry)
 entryBy line at None = None
-entryBy line at (Some started) = made (entryOf started) (numberPair 13 14 line at)
+entryBy line at (Some started) = inside (entryOf started) (numberPair 13 14 line at)
 
 abbrev pub entryFrom : List ℕ → Option (List ℕ × ℕ) → Option (Option Entry)
 entryFrom line None = None
@@ -64,7 +66,7 @@ entryFrom line (Some p) = entryBy line (p .1) (startedBy (p .0))
 abbrev pub entryLine : List ℕ → Option (Option Entry)
 entryLine line = entryFrom line (firstWord line)
 
--- a line of code: an instruction with its codes, of which only a GET has any of its own
+-- a line of code; a GET has a row of codes
 pub data Statement : Type 0 where
   end-line : Statement
   put-line : CellOperand → CodeOperand → Statement
@@ -102,20 +104,21 @@ keywordIn w =
     (cond (sameBytes w (codes "loop")) (Some Loop)
     None))))))))
 
+-- a cell and a code, with which the line ends
 abbrev pub cellAndCode : Body (CellOperand × CodeOperand)
 cellAndCode = lastly (then cellField codeField)
 
--- the fields behind it
+-- the fields behind each first word
 abbrev pub statementBy : Keyword → Body Statement
-statementBy End line at = made (λ _. end-line) (lastly nothing line at)
-statementBy Put line at = made (λ p. put-line (p .0) (p .1)) (cellAndCode line at)
-statementBy Get line at = made (λ p. get-line (p .0) (p .1)) (lastly (then cellField row) line at)
-statementBy Freeze line at = made freeze-line (lastly cellField line at)
-statementBy If line at = made (λ p. if-line (p .0) (p .1)) (numberPair 15 13 line at)
-statementBy Has line at = made (λ p. has-line (p .0) (p .1)) (cellAndCode line at)
-statementBy Start line at = made start-line (lastly (numberField 9) line at)
-statementBy Let line at = made let-line (lastly (numberField 18) line at)
-statementBy Loop line at = made (λ p. loop-line (p .0) (p .1)) (numberPair 15 13 line at)
+statementBy End line at = inside (λ _. end-line) (lastly nothing line at)
+statementBy Put line at = inside (λ p. put-line (p .0) (p .1)) (cellAndCode line at)
+statementBy Get line at = inside (λ p. get-line (p .0) (p .1)) (lastly (then cellField row) line at)
+statementBy Freeze line at = inside freeze-line (lastly cellField line at)
+statementBy If line at = inside (λ p. if-line (p .0) (p .1)) (numberPair 15 13 line at)
+statementBy Has line at = inside (λ p. has-line (p .0) (p .1)) (cellAndCode line at)
+statementBy Start line at = inside start-line (lastly (numberField 9) line at)
+statementBy Let line at = inside let-line (lastly (numberField 18) line at)
+statementBy Loop line at = inside (λ p. loop-line (p .0) (p .1)) (numberPair 15 13 line at)
 
 abbrev pub byKeyword : List ℕ → ℕ → Option Keyword → Option (Option Statement)
 byKeyword line at None = None
@@ -125,6 +128,7 @@ abbrev pub codeFrom : List ℕ → Option (List ℕ × ℕ) → Option (Option S
 codeFrom line None = None
 codeFrom line (Some p) = byKeyword line (p .1) (keywordIn (p .0))
 
+-- a line of code
 abbrev pub codeLine : List ℕ → Option (Option Statement)
 codeLine line = codeFrom line (firstWord line)
 

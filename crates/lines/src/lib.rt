@@ -1,5 +1,5 @@
 // The lines of a text, one at a time: what each says, and the words it gives.
-// None says that a line breaks the grammar; one that fits it but has a number too large for its field has no value.
+// A line function answers none where the line breaks the grammar.
 ghost use mathlib.Core.Path.{_≡_};
 ghost use Prim.Native.Nat.{_+_, _<_, _≤_};
 ghost use Rattle.std.specs.Options.{mapped};
@@ -8,8 +8,9 @@ ghost use lib.ListN.{take};
 ghost use Rattle.words.specs.Instructions.{instructionWord};
 ghost use Rattle.lines.specs.declared.Keyword.the-variants.{Get};
 ghost use Rattle.lines.specs.Forms.{both as bothOf, lastly, row, rowWords, rowTold, AtMostEight, stored};
-ghost use Rattle.lines.specs.Lines.{headLine, headOf, startedBy, entryOf, entryLine, numberPair, keywordIn, cellAndCode, made, told, statementWords, codeLine, statementBy, put-line, has-line, freeze-line, if-line, loop-line, start-line, let-line, getWords};
+ghost use Rattle.lines.specs.Lines.{headLine, headOf, startedBy, entryOf, entryLine, numberPair, keywordIn, cellAndCode, inside, told, statementWords, codeLine, statementBy, put-line, has-line, freeze-line, if-line, loop-line, start-line, let-line, getWords};
 ghost use Rattle.lexer.specs.Fields.{numberField, cellField};
+use lexer::fields::Fitting;
 use lexer::fields::cell_field;
 use lexer::fields::code_field;
 use lexer::fields::first_word;
@@ -35,7 +36,7 @@ pub use wording::LineWords;
 // The triggers of a GET line, if its codes all fit, and the place after them.
 #[derive(Clone, Copy)]
 struct Row {
-    words: Option<[u32; 8]>,
+    words: Fitting<[u32; 8]>,
     count: usize,
     next: usize,
 }
@@ -55,7 +56,7 @@ pub enum Keyword {
 }
 
 // `lattice L cells N tasks T`
-pub fn head_line(line: &[u8]) -> Option<Option<Head>>
+pub fn head_line(line: &[u8]) -> Option<Fitting<Head>>
     ensures { λ r. ⌜ r ≡ headLine (now (line .entry)) ⌝ }
 {
     let (word, at) = first_word(line)?;
@@ -74,7 +75,7 @@ pub fn head_line(line: &[u8]) -> Option<Option<Head>>
 }
 
 // `task P N` or `idle P N`
-pub fn entry_line(line: &[u8]) -> Option<Option<Entry>>
+pub fn entry_line(line: &[u8]) -> Option<Fitting<Entry>>
     ensures { λ r. ⌜ r ≡ entryLine (now (line .entry)) ⌝ }
 {
     let (word, at) = first_word(line)?;
@@ -84,15 +85,19 @@ pub fn entry_line(line: &[u8]) -> Option<Option<Entry>>
 }
 
 // A line of code.
-pub fn code_line(line: &[u8]) -> Option<Option<LineWords>>
-    ensures { λ r. ⌜ made told r ≡ made statementWords (codeLine (now (line .entry))) ⌝ }
+pub fn code_line(line: &[u8]) -> Option<Fitting<LineWords>>
+    ensures { λ r. ⌜ inside told r ≡ inside statementWords (codeLine (now (line .entry))) ⌝ }
 {
     let (word, at) = first_word(line)?;
     let keyword = keyword_in(word)?;
     statement(keyword, line, at)
 }
 
-fn head_of(label: Option<Bits<8>>, cells: Option<Bits<10>>, tasks: Option<Bits<10>>) -> Option<Head>
+fn head_of(
+    label: Fitting<Bits<8>>,
+    cells: Fitting<Bits<10>>,
+    tasks: Fitting<Bits<10>>,
+) -> Fitting<Head>
     ensures { λ r. ⌜ r ≡ mapped headOf (bothOf label (bothOf cells tasks)) ⌝ }
 {
     Some(Head {
@@ -112,7 +117,7 @@ fn started_by(word: &[u8]) -> Option<bool>
     }
 }
 
-fn entry_of(started: bool, numbers: Option<(Bits<13>, Bits<14>)>) -> Option<Entry>
+fn entry_of(started: bool, numbers: Fitting<(Bits<13>, Bits<14>)>) -> Fitting<Entry>
     ensures { λ r. ⌜ r ≡ mapped (entryOf started) numbers ⌝ }
 {
     let (place, argument) = numbers?;
@@ -141,7 +146,7 @@ fn keyword_in(word: &[u8]) -> Option<Keyword>
 }
 
 // Both values, if both fit.
-fn both<X: Drop, Y: Drop>(x: Option<X>, y: Option<Y>) -> Option<(X, Y)>
+fn both<X: Drop, Y: Drop>(x: Fitting<X>, y: Fitting<Y>) -> Fitting<(X, Y)>
     ensures { λ r. ⌜ r ≡ bothOf x y ⌝ }
 {
     Some((x?, y?))
@@ -151,7 +156,7 @@ fn both<X: Drop, Y: Drop>(x: Option<X>, y: Option<Y>) -> Option<(X, Y)>
 fn number_pair<const M: u32, const N: u32>(
     line: &[u8],
     at: usize,
-) -> Option<Option<(Bits<M>, Bits<N>)>>
+) -> Option<Fitting<(Bits<M>, Bits<N>)>>
     ensures { λ r. ⌜ r ≡ numberPair M N (now (line .entry)) at ⌝ }
 {
     let (first, at) = number_field(line, at)?;
@@ -163,7 +168,7 @@ fn number_pair<const M: u32, const N: u32>(
 }
 
 // A cell and a code, with which the line ends.
-fn cell_and_code(line: &[u8], at: usize) -> Option<Option<(CellOperand, CodeOperand)>>
+fn cell_and_code(line: &[u8], at: usize) -> Option<Fitting<(CellOperand, CodeOperand)>>
     ensures { λ r. ⌜ r ≡ cellAndCode (now (line .entry)) at ⌝ }
 {
     let (cell, at) = cell_field(line, at)?;
@@ -175,7 +180,7 @@ fn cell_and_code(line: &[u8], at: usize) -> Option<Option<(CellOperand, CodeOper
 }
 
 // A number, with which the line ends.
-fn last_number<const N: u32>(line: &[u8], at: usize) -> Option<Option<Bits<N>>>
+fn last_number<const N: u32>(line: &[u8], at: usize) -> Option<Fitting<Bits<N>>>
     ensures { λ r. ⌜ r ≡ lastly (numberField N) (now (line .entry)) at ⌝ }
 {
     let (number, at) = number_field(line, at)?;
@@ -186,7 +191,7 @@ fn last_number<const N: u32>(line: &[u8], at: usize) -> Option<Option<Bits<N>>>
 }
 
 // A cell, with which the line ends.
-fn last_cell(line: &[u8], at: usize) -> Option<Option<CellOperand>>
+fn last_cell(line: &[u8], at: usize) -> Option<Fitting<CellOperand>>
     ensures { λ r. ⌜ r ≡ lastly cellField (now (line .entry)) at ⌝ }
 {
     let (cell, at) = cell_field(line, at)?;
@@ -197,8 +202,8 @@ fn last_cell(line: &[u8], at: usize) -> Option<Option<CellOperand>>
 }
 
 // The line behind its first word.
-fn statement(keyword: Keyword, line: &[u8], at: usize) -> Option<Option<LineWords>>
-    ensures { λ r. ⌜ made told r ≡ made statementWords (statementBy keyword (now (line .entry)) at) ⌝ }
+fn statement(keyword: Keyword, line: &[u8], at: usize) -> Option<Fitting<LineWords>>
+    ensures { λ r. ⌜ inside told r ≡ inside statementWords (statementBy keyword (now (line .entry)) at) ⌝ }
 {
     match keyword {
         Keyword::End => {
@@ -225,55 +230,55 @@ fn single(instruction: Instruction) -> LineWords
     LineWords::single(instruction.encode())
 }
 
-fn put(operands: Option<(CellOperand, CodeOperand)>) -> Option<LineWords>
+fn put(operands: Fitting<(CellOperand, CodeOperand)>) -> Fitting<LineWords>
     ensures { λ r. ⌜ mapped told r ≡ mapped (λ p. statementWords (put-line (p .0) (p .1))) operands ⌝ }
 {
     let (cell, code) = operands?;
     Some(single(Instruction::Put(cell, code)))
 }
 
-fn has(operands: Option<(CellOperand, CodeOperand)>) -> Option<LineWords>
+fn has(operands: Fitting<(CellOperand, CodeOperand)>) -> Fitting<LineWords>
     ensures { λ r. ⌜ mapped told r ≡ mapped (λ p. statementWords (has-line (p .0) (p .1))) operands ⌝ }
 {
     let (cell, code) = operands?;
     Some(single(Instruction::Has(cell, code)))
 }
 
-fn freeze(cell: Option<CellOperand>) -> Option<LineWords>
+fn freeze(cell: Fitting<CellOperand>) -> Fitting<LineWords>
     ensures { λ r. ⌜ mapped told r ≡ mapped (λ c. statementWords (freeze-line c)) cell ⌝ }
 {
     Some(single(Instruction::Freeze(cell?)))
 }
 
-fn if_equal(numbers: Option<(Bits<15>, Place)>) -> Option<LineWords>
+fn if_equal(numbers: Fitting<(Bits<15>, Place)>) -> Fitting<LineWords>
     ensures { λ r. ⌜ mapped told r ≡ mapped (λ p. statementWords (if-line (p .0) (p .1))) numbers ⌝ }
 {
     let (number, place) = numbers?;
     Some(single(Instruction::If(number, place)))
 }
 
-fn loop_to(numbers: Option<(Bits<15>, Place)>) -> Option<LineWords>
+fn loop_to(numbers: Fitting<(Bits<15>, Place)>) -> Fitting<LineWords>
     ensures { λ r. ⌜ mapped told r ≡ mapped (λ p. statementWords (loop-line (p .0) (p .1))) numbers ⌝ }
 {
     let (number, place) = numbers?;
     Some(single(Instruction::Loop(number, place)))
 }
 
-fn start(task: Option<Bits<9>>) -> Option<LineWords>
+fn start(task: Fitting<Bits<9>>) -> Fitting<LineWords>
     ensures { λ r. ⌜ mapped told r ≡ mapped (λ t. statementWords (start-line t)) task ⌝ }
 {
     Some(single(Instruction::Start(task?)))
 }
 
-fn let_be(number: Option<Code>) -> Option<LineWords>
+fn let_be(number: Fitting<Code>) -> Fitting<LineWords>
     ensures { λ r. ⌜ mapped told r ≡ mapped (λ n. statementWords (let-line n)) number ⌝ }
 {
     Some(single(Instruction::Let(number?)))
 }
 
 // `get C V` with one to eight codes
-fn get_line(line: &[u8], at: usize) -> Option<Option<LineWords>>
-    ensures { λ r. ⌜ made told r ≡ made statementWords (statementBy Get (now (line .entry)) at) ⌝ }
+fn get_line(line: &[u8], at: usize) -> Option<Fitting<LineWords>>
+    ensures { λ r. ⌜ inside told r ≡ inside statementWords (statementBy Get (now (line .entry)) at) ⌝ }
 {
     let (cell, at) = cell_field(line, at)?;
     let row = trigger_row(line, at)?;
@@ -283,7 +288,7 @@ fn get_line(line: &[u8], at: usize) -> Option<Option<LineWords>>
     Some(get(cell, row.count, row.words))
 }
 
-fn get(cell: Option<CellOperand>, count: usize, triggers: Option<[u32; 8]>) -> Option<LineWords>
+fn get(cell: Fitting<CellOperand>, count: usize, triggers: Fitting<[u32; 8]>) -> Fitting<LineWords>
     requires { ⌜ count ≤ 8 ⌝ }
     ensures { λ r. ⌜ mapped told r ≡ getWords cell count (mapped (take count) triggers) ⌝ }
 {
@@ -318,7 +323,7 @@ fn trigger_row(line: &[u8], start: usize) -> Option<Row>
 }
 
 // One trigger more, if its code fits.
-fn store(words: Option<[u32; 8]>, at: usize, code: Option<CodeOperand>) -> Option<[u32; 8]>
+fn store(words: Fitting<[u32; 8]>, at: usize, code: Fitting<CodeOperand>) -> Fitting<[u32; 8]>
     requires { ⌜ at < 8 ⌝ }
     ensures { λ r. ⌜ r ≡ stored words at code ⌝ }
 {

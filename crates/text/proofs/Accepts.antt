@@ -17,7 +17,7 @@ use Rattle.std.proofs.shelf.Tests.{cond-true, cond-false, le-leb, lt-leb, ne-eq
 use Rattle.words.specs.declared.entry.Entry.{Entry}
 use Rattle.words.specs.Heads.{headWord}
 use Rattle.words.specs.Entries.{entryWord}
-use Rattle.lines.specs.Lines.{Statement, statementWords, made, headLine, entryLine, codeLine}
+use Rattle.lines.specs.Lines.{Statement, statementWords, inside, headLine, entryLine, codeLine}
 use Rattle.grammar.specs.Printed.{printedHead, printedEntry, printedStatement, Formed}
 use Rattle.grammar.specs.Programs.{Program, Whole, printed, programWords}
 use Rattle.grammar.proofs.Numerals.{some-same, none-some}
@@ -68,7 +68,7 @@ code-fits : (ss : List Statement) (k room : ℕ) → All Formed ss → Fits (out
 code-fits [] k room good = (λ _. refl, λ short. absurd (omega arith))
 code-fits (s ∷ ss) k room good =
     fits-more (map printedStatement ss) (printedStatement s) Code Code k room (statementWords s) (joined statementWords ss)
-    (line-code (printedStatement s) ∙ ap (λ (o : Option (Option Statement)). lineBy (λ ws. (ws, Code)) (made statementWords o)) (statement-printed s (good .0)))
+    (line-code (printedStatement s) ∙ ap (λ (o : Option (Option Statement)). lineBy (λ ws. (ws, Code)) (inside statementWords o)) (statement-printed s (good .0)))
     (code-fits ss (k + 1) (room - length (statementWords s)) (good .1))
 
 tasks-some : (n : ℕ) → tasksLeft (suc n) ≡ Tasks (suc n)
@@ -128,7 +128,7 @@ code-read [] k room all e = let none : [] ≡ all = same-ok e in ([], tt, refl, 
 code-read (l ∷ ls) k room all e =
     let found = first-line l ls Code k room all e in
     let ws = found .0 in
-    let said = by-some (λ ws. (ws, Code)) (made statementWords (codeLine l)) ws (found .1) (sym (line-code l) ∙ found .2) in
+    let said = by-some (λ ws. (ws, Code)) (inside statementWords (codeLine l)) ws (found .1) (sym (line-code l) ∙ found .2) in
     let next = found .3 .1 in
     let here = statement-of (codeLine l) (said .0) (said .1) in
     let s = here .0 in
@@ -142,7 +142,7 @@ code-read (l ∷ ls) k room all e =
       omega (arith, ap length (next .2), length-append ws (next .0), found .3 .0, later .4),
     )
   where
-    statement-of : (o : Option (Option Statement)) (ws : List ℕ) → made statementWords o ≡ Some (Some ws) → (s : Statement) × (o ≡ Some (Some s)) × (statementWords s ≡ ws)
+    statement-of : (o : Option (Option Statement)) (ws : List ℕ) → inside statementWords o ≡ Some (Some ws) → (s : Statement) × (o ≡ Some (Some s)) × (statementWords s ≡ ws)
     statement-of None ws e = none-some e
     statement-of (Some None) ws e = none-some (some-same e)
     statement-of (Some (Some s)) ws e = (s, refl, some-same (some-same e))

@@ -11,7 +11,7 @@ use Rattle.std.specs.declared.result.Result.the-variants.{Ok, Err}
 use Rattle.words.specs.Heads.{headWord}
 use Rattle.words.specs.Entries.{entryWord}
 use Rattle.lines.specs.declared.wording.LineWords.{LineWords}
-use Rattle.lines.specs.Lines.{headLine, entryLine, codeLine, statementWords, made, told}
+use Rattle.lines.specs.Lines.{headLine, entryLine, codeLine, statementWords, inside, told}
 use Rattle.text.specs.declared.section.Section.{Section}
 use Rattle.text.specs.declared.section.Section.the-variants.{Head, Tasks, Code}
 use Rattle.text.specs.declared.refusal.Cause.{Cause}
@@ -28,16 +28,26 @@ number Room = 3
 abbrev pub numbered : Refusal → ℕ × ℕ
 numbered r = (number (r .cause), r .line)
 
+-- a line is refused for its grammar before it is refused for its numbers
+abbrev pub judged : {X : Type 0} → Option (Option X) → Result X Cause
+judged None = Err Grammar
+judged (Some None) = Err Range
+judged (Some (Some x)) = Ok x
+
+-- what is made of what was read
+abbrev pub onward : {X Y : Type 0} → (X → Y) → Result X Cause → Result Y Cause
+onward f (Ok x) = Ok (f x)
+onward f (Err c) = Err c
+
 -- what a line says, in words, and what comes behind it
 abbrev pub lineBy : {X : Type 0} → (X → List ℕ × Section) → Option (Option X) → Result (List ℕ × Section) Cause
-lineBy f None = Err Grammar
-lineBy f (Some None) = Err Range
-lineBy f (Some (Some x)) = Ok (f x)
+lineBy f o = onward f (judged o)
 
 -- so many task lines are to come, and then code
 abbrev pub tasksLeft : ℕ → Section
 tasksLeft n = cond (eqb n 0) Code (Tasks n)
 
+-- the first line, a task line where n are to come, a line of code
 abbrev pub headIn : List ℕ → Result (List ℕ × Section) Cause
 headIn line = lineBy (λ h. (headWord h ∷ [], tasksLeft (h .tasks .value))) (headLine line)
 
@@ -45,8 +55,9 @@ abbrev pub entryIn : ℕ → List ℕ → Result (List ℕ × Section) Cause
 entryIn n line = lineBy (λ e. (entryWord e ∷ [], tasksLeft (n - 1))) (entryLine line)
 
 abbrev pub codeIn : List ℕ → Result (List ℕ × Section) Cause
-codeIn line = lineBy (λ ws. (ws, Code)) (made statementWords (codeLine line))
+codeIn line = lineBy (λ ws. (ws, Code)) (inside statementWords (codeLine line))
 
+-- a line, by the part of the text that it stands in
 unfoldable pub lineIn : Section → List ℕ → Result (List ℕ × Section) Cause
 lineIn Head line = headIn line
 lineIn (Tasks n) line = entryIn n line
@@ -76,10 +87,12 @@ ended Head k = Err (record { cause = Grammar; line = k })
 ended (Tasks n) k = Err (record { cause = Grammar; line = k })
 ended Code k = Ok []
 
+-- words in front of those of the lines behind
 abbrev pub prefixed : List ℕ → Result (List ℕ) Refusal → Result (List ℕ) Refusal
 prefixed ws (Ok more) = Ok (ws ++ more)
 prefixed ws (Err e) = Err e
 
+-- refused at line k
 abbrev pub refused : Cause → ℕ → Result (List ℕ) Refusal
 refused c k = Err (record { cause = c; line = k })
 

@@ -1,8 +1,9 @@
 // The parts of a text: its first line, its task lines and its code.
 ghost use mathlib.Core.Path.{_≡_};
 ghost use Prim.Native.Nat.{_-_};
-ghost use Rattle.text.specs.Reading.{tasksLeft, headIn, entryIn, codeIn, lineIn, toldLine};
+ghost use Rattle.text.specs.Reading.{judged as judgedBy, tasksLeft, headIn, entryIn, codeIn, lineIn, toldLine};
 use crate::Cause;
+use lexer::fields::Fitting;
 use lines::LineWords;
 use lines::code_line;
 use lines::entry_line;
@@ -39,12 +40,7 @@ fn tasks_left(left: u32) -> Section
 fn read_head(line: &[u8]) -> Result<(LineWords, Section), Cause>
     ensures { λ r. ⌜ toldLine r ≡ headIn (now (line .entry)) ⌝ }
 {
-    let Some(fitting) = head_line(line) else {
-        return Err(Cause::Grammar);
-    };
-    let Some(head) = fitting else {
-        return Err(Cause::Range);
-    };
+    let head = judged(head_line(line))?;
     Ok((
         LineWords::single(head.encode()),
         tasks_left(head.tasks.get()),
@@ -54,12 +50,7 @@ fn read_head(line: &[u8]) -> Result<(LineWords, Section), Cause>
 fn read_entry(left: u32, line: &[u8]) -> Result<(LineWords, Section), Cause>
     ensures { λ r. ⌜ toldLine r ≡ entryIn left (now (line .entry)) ⌝ }
 {
-    let Some(fitting) = entry_line(line) else {
-        return Err(Cause::Grammar);
-    };
-    let Some(entry) = fitting else {
-        return Err(Cause::Range);
-    };
+    let entry = judged(entry_line(line))?;
     Ok((
         LineWords::single(entry.encode()),
         tasks_left(left.saturating_sub(1)),
@@ -69,11 +60,17 @@ fn read_entry(left: u32, line: &[u8]) -> Result<(LineWords, Section), Cause>
 fn read_code(line: &[u8]) -> Result<(LineWords, Section), Cause>
     ensures { λ r. ⌜ toldLine r ≡ codeIn (now (line .entry)) ⌝ }
 {
-    let Some(fitting) = code_line(line) else {
-        return Err(Cause::Grammar);
-    };
-    let Some(words) = fitting else {
-        return Err(Cause::Range);
-    };
+    let words = judged(code_line(line))?;
     Ok((words, Section::Code))
+}
+
+// A line is refused for its grammar before it is refused for its numbers.
+fn judged<T>(line: Option<Fitting<T>>) -> Result<T, Cause>
+    ensures { λ r. ⌜ r ≡ judgedBy line ⌝ }
+{
+    match line {
+        None => Err(Cause::Grammar),
+        Some(None) => Err(Cause::Range),
+        Some(Some(said)) => Ok(said),
+    }
 }

@@ -6,17 +6,17 @@ use Rattle.std.specs.declared.option.Option.the-variants.{Some}
 use Rattle.words.specs.declared.instruction.CellOperand.{CellOperand}
 use Rattle.words.specs.declared.instruction.CodeOperand.{CodeOperand}
 use Rattle.lines.specs.Forms.{row}
-use Rattle.lines.specs.Lines.{made, told, get-line, statementWords}
+use Rattle.lines.specs.Lines.{inside, told, get-line, statementWords}
 use Rattle.lines.proofs.Rows.{get-fields, get-ends, get-goes-on, get-broken}
 use Rattle.lines.proofs.get_line.Needs as need
 
 -- what the fields say gives the line's words
 abbrev shown : Option (Option (CellOperand × List CodeOperand)) → Option (Option (List ℕ))
-shown o = made statementWords (made (λ p. get-line (p .0) (p .1)) o)
+shown o = inside statementWords (inside (λ p. get-line (p .0) (p .1)) o)
 
 pub returns-in-Break-row : need.returns-in-Break-row
 returns-in-Break-row c =
-    ap (made told) (c .from-residual-in-Break-row .ensures)
+    ap (inside told) (c .from-residual-in-Break-row .ensures)
     ∙ get-broken (c .args .line .now) (c .in-Continue-cell .cell) (row (c .args .line .now) (c .in-Continue-cell .at)) (sym (c .in-Break-row .ensures tt .is))
     ∙ ap shown (sym (get-fields (c .args .line .now) (c .args .at) (c .in-Continue-cell .at) (c .in-Continue-cell .cell) (sym (c .in-Continue-cell .ensures tt))))
 
