@@ -12,6 +12,7 @@ use Rattle.std.proofs.shelf.Bits.{and-mask, one-shl}
 use Rattle.std.specs.declared.option.Option.{Option}
 use Rattle.std.specs.declared.option.Option.the-variants.{Some, None}
 use Rattle.bits.specs.declared.Bits.{Bits}
+use Rattle.bits.proofs.Options.{none-some}
 use Rattle.bits.specs.Fits.{fitted, lowest}
 
 pub same-bits : {n : ℕ} (a b : Bits n) → a .value ≡ b .value → a ≡ b
@@ -38,7 +39,7 @@ module _ {n : ℕ} where
 
   some-by : (v : ℕ) (b : Bits n) (d : Dec (v < 2 ^ n)) → _≡_ {A = Option (Bits n)} (elim d [ yes k ↦ Some (record { value = v; fits = k }) | no _ ↦ None ]) (Some b) → v ≡ b .value
   some-by v b (yes k) e = cc
-  some-by v b (no k) e = let z : _≡_ {A = ℕ} 0 1 = cc in absurd (omega arith)
+  some-by v b (no k) e = none-some e
 
   -- a number of n bits came from its value
   pub fitted-from : (v : ℕ) (b : Bits n) → fitted n v ≡ Some b → v ≡ b .value

@@ -27,7 +27,7 @@ use Rattle.lexer.specs.Tokens.{Said, word, plain, plus, register, Placed, token
 use Rattle.lexer.specs.Fields.{Field, stands, fieldAt, spelt, speltBy, wordField, kept, only, numberIn, cellIn, codeIn, numberField, cellField, codeField}
 use Rattle.lines.specs.Forms.{both, beside, thenBy, then, namedBy, named, before}
 use Rattle.grammar.specs.Printed.{printedNumber, printedCell, printedCode}
-use Rattle.grammar.proofs.Numerals.{some-same, none-some}
+use Rattle.bits.proofs.Options.{some-same, none-some}
 use Rattle.grammar.proofs.Spelling.{Stops, Wordlike, Proper, spelled, token-printed, token-read}
 
 -- fields that are read exactly where they are printed, with what has to stand behind them
@@ -102,7 +102,7 @@ takes-reads f print k = record {
 }
 
 -- a number of a field has nine digits at most
-small : {n : ℕ} → n ≤ 18 → (b : Bits n) → b .value < 10 ^ 9
+pub small : {n : ℕ} → n ≤ 18 → (b : Bits n) → b .value < 10 ^ 9
 small {n} le b = let f = b .fits in omega (arith, pow-mono {i = n} {j = 18} le)
 
 mapped-from : {X Y : Type 0} (f : X → Y) (o : Option X) (y : Y) → mapped f o ≡ Some y → (x : X) × (o ≡ Some x) × (f x ≡ y)

@@ -23,7 +23,7 @@ use Rattle.lexer.specs.Fields.{Field, stands, ends, leading, leadingBy, firstWo
 use Rattle.lines.specs.Forms.{then, named, closed, lastly}
 use Rattle.lines.specs.Lines.{inside, headOf, headFields, headFrom, headLine, startedBy, numberPair, entryOf, entryBy, entryFrom, entryLine}
 use Rattle.grammar.specs.Printed.{printedNumber, lineOf, printedHead, printedEntry}
-use Rattle.grammar.proofs.Numerals.{some-same, none-some}
+use Rattle.bits.proofs.Options.{some-same, none-some}
 use Rattle.grammar.proofs.Spelling.{Stops, Wordlike, spelled, token-printed, token-read}
 use Rattle.grammar.proofs.Fieldwise.{Reads, Any, stands-at, number-reads, then-reads, named-reads}
 

@@ -17,14 +17,9 @@ use Rattle.std.proofs.shelf.Decimals.{digits-decimal, value-decimal, decimal-so
 use Rattle.std.proofs.shelf.Lists.{take-at, drop-drop, take-append-drop, length-take-le}
 use Rattle.std.proofs.shelf.Tests.{cond-true, cond-false, and-parts, leb-true, or-cases, eqb-true, eqb-false, not-true, cases-lt}
 use Rattle.std.proofs.shelf.Ways.{tells}
+use Rattle.bits.proofs.Options.{some-same, none-some}
 use Rattle.lexer.specs.Numbers.{run, digitsAt, formed, numberBy, numberAt}
 use Rattle.lexer.proofs.Scans.{own, digit-is, digits-run}
-
-pub some-same : {X : Type 0} {x y : X} → _≡_ {A = Option X} (Some x) (Some y) → x ≡ y
-some-same e = cc
-
-pub none-some : {X P : Type 0} {x : X} → _≡_ {A = Option X} None (Some x) → P
-none-some e = let z : _≡_ {A = ℕ} 0 1 = cc in absurd (omega arith)
 
 -- what stands behind a number is no digit
 pub run-digits : (ds rest : List ℕ) → Digits 10 ds → asciiDigit (getD rest 0 0) ≡ false → run (ds ++ rest) ≡ length ds

@@ -13,13 +13,14 @@ use Rattle.std.specs.Written.{decimal}
 use Rattle.std.specs.declared.option.Option.{Option}
 use Rattle.std.specs.declared.option.Option.the-variants.{Some, None}
 use Rattle.std.proofs.shelf.Lists.{append-assoc, drop-drop, drop-at, length-append, getD-drop}
-use Rattle.std.proofs.shelf.Tests.{cond-true, cond-false, and-right}
+use Rattle.std.proofs.shelf.Tests.{and-right}
 use Rattle.words.specs.declared.instruction.CodeOperand.{CodeOperand}
 use Rattle.words.specs.declared.instruction.CodeOperand.the-variants as code
 use Rattle.lexer.specs.Fields.{Field, stands, codeField}
+use Rattle.lines.proofs.Rows.{row-next, row-none, row-ends}
 use Rattle.lines.specs.Forms.{ahead, before, firstly, rowAt, row}
 use Rattle.grammar.specs.Printed.{printedCode}
-use Rattle.grammar.proofs.Numerals.{some-same, none-some}
+use Rattle.bits.proofs.Options.{some-same, none-some}
 use Rattle.grammar.proofs.Spelling.{Stops}
 use Rattle.grammar.proofs.Fieldwise.{Reads, stands-at, code-reads, code-stops}
 
@@ -39,19 +40,6 @@ no-space line at rest e end =
     let here : getD line at 0 ≡ 10 = ap (λ (k : ℕ). getD line k 0) (sym (add-zero at)) ∙ sym (getD-drop at line 0 0) ∙ ap (λ (l : List ℕ). getD l 0 0) e ∙ end in
     and-right (ltb at (length line)) (eqb (getD line at 0) 32) (ap (λ (c : ℕ). eqb c 32) here)
 
-row-none : (n : ℕ) (line : List ℕ) (at : ℕ) → stands line at 32 ≡ false → rowAt n line at ≡ Some (Some [], at)
-unfolding rowAt
-row-none zero line at e = refl
-row-none (suc n) line at e = cond-false (stands line at 32) _ _ e
-
-row-zero : (line : List ℕ) (at : ℕ) → rowAt 0 line at ≡ Some (Some [], at)
-unfolding rowAt
-row-zero line at = refl
-
-row-some : (n : ℕ) (line : List ℕ) (at : ℕ) → stands line at 32 ≡ true → rowAt (suc n) line at ≡ firstly (codeField line at) (rowAt n line)
-unfolding rowAt
-row-some n line at e = cond-true (stands line at 32) _ _ e
-
 -- a printed code begins with a space
 code-space : (v : CodeOperand) (rest line : List ℕ) (at : ℕ) → drop at line ≡ printedCode v ++ rest → stands line at 32 ≡ true
 code-space (code.Fixed v) rest line at e = stands-at line at 32 (decimal (v .value) ++ rest) e
@@ -69,10 +57,10 @@ module _ (line : List ℕ) (at : ℕ) (v : CodeOperand) (vs : List CodeOperand) 
       ap (λ (o : Field CodeOperand). firstly o more) first ∙ ap (before (Some v)) (others next behind) ∙ ap (λ (k : ℕ). Some (Some (v ∷ vs), k)) n
 
 row-printed : (n : ℕ) (vs : List CodeOperand) (line : List ℕ) (at : ℕ) (rest : List ℕ) → length vs ≤ n → drop at line ≡ codes-of vs ++ rest → Ends rest → rowAt n line at ≡ Some (Some vs, at + length (codes-of vs))
-row-printed n [] line at rest few e end = row-none n line at (no-space line at rest e end) ∙ ap (λ (k : ℕ). Some (Some [], k)) (sym (add-zero at))
+row-printed n [] line at rest few e end = row-ends n line at (no-space line at rest e end) ∙ ap (λ (k : ℕ). Some (Some [], k)) (sym (add-zero at))
 row-printed zero (v ∷ vs) line at rest few e end = absurd (omega arith)
 row-printed (suc n) (v ∷ vs) line at rest few e end =
-    row-some n line at (code-space v (codes-of vs ++ rest) line at (e ∙ append-assoc (printedCode v) (codes-of vs) rest))
+    row-next n line at (code-space v (codes-of vs ++ rest) line at (e ∙ append-assoc (printedCode v) (codes-of vs) rest))
     ∙ one-printed line at v vs (rowAt n line) rest e end (λ next behind. row-printed n vs line next rest (omega arith) behind end)
 
 -- what a row was read from
@@ -121,11 +109,11 @@ row-step : (n : ℕ) (line : List ℕ) (at next : ℕ) (vs : List CodeOperand) �
 row-step n line at next vs others e = go (stands line at 32) refl
   where
     go : (b : Bool) → stands line at 32 ≡ b → Shown line at next vs × (length vs ≤ suc n)
-    go false s = no-more line at next (suc n) vs (sym (row-none (suc n) line at s) ∙ e)
-    go true s = let found = firstly-read line at next n vs (rowAt n line) others (sym (row-some n line at s) ∙ e) in (found .0, found .2)
+    go false s = no-more line at next (suc n) vs (sym (row-ends (suc n) line at s) ∙ e)
+    go true s = let found = firstly-read line at next n vs (rowAt n line) others (sym (row-next n line at s) ∙ e) in (found .0, found .2)
 
 row-read : (n : ℕ) (line : List ℕ) (at next : ℕ) (vs : List CodeOperand) → rowAt n line at ≡ Some (Some vs, next) → Shown line at next vs × (length vs ≤ n)
-row-read zero line at next vs e = no-more line at next 0 vs (sym (row-zero line at) ∙ e)
+row-read zero line at next vs e = no-more line at next 0 vs (sym (row-none line at) ∙ e)
 row-read (suc n) line at next vs e = row-step n line at next vs (λ from ws h. row-read n line from next ws h) e
 
 pub row-reads : Reads row (joined printedCode) (λ vs. (1 ≤ length vs) × (length vs ≤ 8)) Ends

@@ -18,8 +18,9 @@ use Rattle.std.proofs.shelf.Numerals.{digit-from-value}
 use Rattle.std.proofs.shelf.Tests.{cond-true, cond-false, or-from, or-left, or-right, and-parts, and-left, eq-eqb, ne-eqb, eqb-true, eqb-false, cond-both}
 use Rattle.lexer.specs.Numbers.{numberAt}
 use Rattle.lexer.specs.Tokens.{Said, word, plain, plus, register, Placed, wide, whole, saidBy, between, fieldBy, tokenAt}
+use Rattle.bits.proofs.Options.{some-same, none-some}
 use Rattle.lexer.proofs.Scans.{digit-is}
-use Rattle.grammar.proofs.Numerals.{some-same, none-some, decimal-digits, decimal-long, number-printed, number-read}
+use Rattle.grammar.proofs.Numerals.{decimal-digits, decimal-long, number-printed, number-read}
 
 -- a space or a line's end
 abbrev pub Stops : List ℕ → Type 0

@@ -23,7 +23,7 @@ use Rattle.lines.specs.Lines.{inside, Statement, end-line, put-line, get-line, 
 use Rattle.lines.specs.declared.Keyword.{Keyword}
 use Rattle.lines.specs.declared.Keyword.the-variants.{End, Put, Get, Freeze, If, Has, Start, Let, Loop}
 use Rattle.grammar.specs.Printed.{printedCell, printedCode, lineOf, printedStatement, Formed}
-use Rattle.grammar.proofs.Numerals.{some-same, none-some}
+use Rattle.bits.proofs.Options.{some-same, none-some}
 use Rattle.grammar.proofs.Spelling.{Stops, Wordlike}
 use Rattle.grammar.proofs.Fieldwise.{Reads, Any, number-reads, cell-reads, code-reads, cell-stops, code-stops, then-reads, then-some}
 use Rattle.grammar.proofs.Rowwise.{Ends, row-reads}

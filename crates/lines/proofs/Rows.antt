@@ -10,6 +10,7 @@ use Rattle.std.specs.declared.option.Option.{Option}
 use Rattle.std.specs.declared.option.Option.the-variants.{Some, None}
 use Rattle.std.proofs.shelf.Lists.{append-assoc, append-nil, take-more-set, length-set, length-map, length-take-le}
 use Rattle.std.proofs.shelf.Tests.{cond-true, cond-false}
+use Rattle.bits.proofs.Options.{some-same, none-some}
 use Rattle.bits.specs.Fits.{lowest}
 use Rattle.words.specs.declared.instruction.CellOperand.{CellOperand}
 use Rattle.words.specs.declared.instruction.CodeOperand.{CodeOperand}
@@ -56,15 +57,15 @@ before-words i (Some ws) None (Some q) lt long = refl
 before-words i (Some ws) (Some v) (Some q) lt long =
     ap (λ (x : Option (List ℕ)). Some (x, q .1)) (ahead-words v (q .0) (take i ws) ∙ ap (λ (l : List ℕ). joined (Some l) (mapped (map trigger) (q .0))) (sym (take-more-set ws i (trigger v) (omega arith))))
 
-row-next : (n : ℕ) (line : List ℕ) (at : ℕ) → stands line at 32 ≡ true → rowAt (suc n) line at ≡ firstly (codeField line at) (rowAt n line)
+pub row-next : (n : ℕ) (line : List ℕ) (at : ℕ) → stands line at 32 ≡ true → rowAt (suc n) line at ≡ firstly (codeField line at) (rowAt n line)
 unfolding rowAt
 row-next n line at e = cond-true (stands line at 32) _ _ e
 
-row-none : (line : List ℕ) (at : ℕ) → rowAt 0 line at ≡ Some (Some [], at)
+pub row-none : (line : List ℕ) (at : ℕ) → rowAt 0 line at ≡ Some (Some [], at)
 unfolding rowAt
 row-none line at = refl
 
-row-ends : (n : ℕ) (line : List ℕ) (at : ℕ) → stands line at 32 ≡ false → rowAt n line at ≡ Some (Some [], at)
+pub row-ends : (n : ℕ) (line : List ℕ) (at : ℕ) → stands line at 32 ≡ false → rowAt n line at ≡ Some (Some [], at)
 unfolding rowAt
 row-ends zero line at e = refl
 row-ends (suc n) line at e = cond-false (stands line at 32) _ _ e
@@ -115,9 +116,6 @@ stored-eight None i v long = tt
 stored-eight (Some ws) i None long = tt
 stored-eight (Some ws) i (Some v) long = length-set ws i (trigger v) ∙ long
 
-same-some : {X : Type 0} {x y : X} → _≡_ {A = Option X} (Some x) (Some y) → x ≡ y
-same-some e = cc
-
 -- a GET line behind its cell
 pub get-fields : (line : List ℕ) (at next : ℕ) (cell : Option CellOperand) → cellField line at ≡ Some (cell, next) → lastly (then cellField row) line at ≡ closed line (beside cell (row line next))
 get-fields line at next cell e = ap (λ (o : Field CellOperand). closed line (thenBy row line o)) e
@@ -126,27 +124,27 @@ get-fields line at next cell e = ap (λ (o : Field CellOperand). closed line (th
 get-by : (cell : Option CellOperand) (vs : Option (List CodeOperand)) (count : ℕ) (words : Option (List ℕ)) → mapped (map trigger) vs ≡ mapped (take count) words → count ≤ 8 → Eight words → getWords cell count (mapped (take count) words) ≡ mapped statementWords (mapped (λ p. get-line (p .0) (p .1)) (both cell vs))
 get-by None vs count words same few long = refl
 get-by (Some c) None count None same few long = refl
-get-by (Some c) None count (Some ws) same few long = let z : _≡_ {A = ℕ} 0 1 = cc in absurd (omega arith)
-get-by (Some c) (Some vs) count None same few long = let z : _≡_ {A = ℕ} 0 1 = cc in absurd (omega arith)
+get-by (Some c) None count (Some ws) same few long = none-some same
+get-by (Some c) (Some vs) count None same few long = none-some (sym same)
 get-by (Some c) (Some vs) count (Some ws) same few long =
     let codes : map trigger vs ≡ take count ws = cc in
     let n : count ≡ length vs = omega (arith, length-map vs trigger, ap length codes, length-take-le count ws (omega arith)) in
     (λ i. Some (instructionWord (Get c (lowest 4 (n i))) ∷ sym codes i))
 
 pub get-ends : (line : List ℕ) (cell : Option CellOperand) (o : Field (List CodeOperand)) (count next : ℕ) (words : Option (List ℕ)) → rowWords o ≡ Some (mapped (take count) words, next) → count ≤ 8 → Eight words → ends line next ≡ true → Some (getWords cell count (mapped (take count) words)) ≡ inside statementWords (inside (λ p. get-line (p .0) (p .1)) (closed line (beside cell o)))
-get-ends line cell None count next words e few long end = let z : _≡_ {A = ℕ} 0 1 = cc in absurd (omega arith)
+get-ends line cell None count next words e few long end = none-some e
 get-ends line cell (Some q) count next words e few long end =
-    let same : mapped (map trigger) (q .0) ≡ mapped (take count) words = ap (λ (p : Option (List ℕ) × ℕ). p .0) (same-some e) in
-    let at : q .1 ≡ next = ap (λ (p : Option (List ℕ) × ℕ). p .1) (same-some e) in
+    let same : mapped (map trigger) (q .0) ≡ mapped (take count) words = ap (λ (p : Option (List ℕ) × ℕ). p .0) (some-same e) in
+    let at : q .1 ≡ next = ap (λ (p : Option (List ℕ) × ℕ). p .1) (some-same e) in
     ap Some (get-by cell (q .0) count words same few long)
     ∙ ap (λ o. inside statementWords (inside (λ p. get-line (p .0) (p .1)) o)) (sym (cond-true (ends line (q .1)) _ _ (ap (ends line) at ∙ end)))
 
 pub get-goes-on : (line : List ℕ) (cell : Option CellOperand) (o : Field (List CodeOperand)) (words : Option (List ℕ)) (next : ℕ) → rowWords o ≡ Some (words, next) → ends line next ≡ false → None ≡ inside statementWords (inside (λ p. get-line (p .0) (p .1)) (closed line (beside cell o)))
-get-goes-on line cell None words next e end = let z : _≡_ {A = ℕ} 0 1 = cc in absurd (omega arith)
+get-goes-on line cell None words next e end = none-some e
 get-goes-on line cell (Some q) words next e end =
-    let at : q .1 ≡ next = ap (λ (p : Option (List ℕ) × ℕ). p .1) (same-some e) in
+    let at : q .1 ≡ next = ap (λ (p : Option (List ℕ) × ℕ). p .1) (some-same e) in
     ap (λ o. inside statementWords (inside (λ p. get-line (p .0) (p .1)) o)) (sym (cond-false (ends line (q .1)) _ _ (ap (ends line) at ∙ end)))
 
 pub get-broken : (line : List ℕ) (cell : Option CellOperand) (o : Field (List CodeOperand)) → rowWords o ≡ None → None ≡ inside statementWords (inside (λ p. get-line (p .0) (p .1)) (closed line (beside cell o)))
 get-broken line cell None e = refl
-get-broken line cell (Some q) e = let z : _≡_ {A = ℕ} 0 1 = cc in absurd (omega arith)
+get-broken line cell (Some q) e = none-some (sym e)

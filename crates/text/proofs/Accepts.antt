@@ -20,7 +20,7 @@ use Rattle.words.specs.Entries.{entryWord}
 use Rattle.lines.specs.Lines.{Statement, statementWords, inside, headLine, entryLine, codeLine}
 use Rattle.grammar.specs.Printed.{printedHead, printedEntry, printedStatement, Formed}
 use Rattle.grammar.specs.Programs.{Program, Whole, printed, programWords}
-use Rattle.grammar.proofs.Numerals.{some-same, none-some}
+use Rattle.bits.proofs.Options.{some-same, none-some}
 use Rattle.grammar.proofs.Linewise.{head-printed, head-read, entry-printed, entry-read}
 use Rattle.grammar.proofs.Statements.{statement-printed, statement-read}
 use Rattle.text.specs.declared.section.Section.{Section}

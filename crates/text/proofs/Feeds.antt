@@ -2,11 +2,10 @@
 use mathlib.Core.Path.{_≡_, refl, sym, ap, _∙_}
 use mathlib.Core.Bool.{Bool, true, false, cond}
 use mathlib.Core.List.{List, [], _∷_, _++_, map}
-use Prim.Native.Nat.{ℕ, _+_, _^_, _≤_, _<_}
+use Prim.Native.Nat.{ℕ, _+_, _≤_}
 use native.Mathlib.Omega.{arith}
 use lib.Chars.{codes}
 use lib.Dec.{eqb}
-use lib.Pow.{pow-mono}
 use Rattle.std.specs.Joined.{joined}
 use Rattle.std.specs.Reads.{Digits}
 use Rattle.std.specs.Written.{decimal}
@@ -24,6 +23,7 @@ use Rattle.lines.specs.Lines.{Statement, end-line, put-line, get-line, freeze-l
 use Rattle.grammar.specs.Printed.{printedNumber, printedCell, printedCode, lineOf, printedHead, printedEntry, printedStatement}
 use Rattle.grammar.specs.Programs.{Program, printed}
 use Rattle.grammar.proofs.Numerals.{decimal-digits}
+use Rattle.grammar.proofs.Fieldwise.{small}
 use Rattle.text.specs.Reading.{onto, linesOf}
 
 -- no byte is a line's end
@@ -38,9 +38,6 @@ unbroken-append (x ∷ xs) ys a b = (a .0, unbroken-append xs ys (a .1) b)
 unbroken-digits : (ds : List ℕ) → Digits 10 ds → Unbroken ds
 unbroken-digits [] d = tt
 unbroken-digits (c ∷ ds) d = (ne-eqb c 10 (λ e. omega (arith, digit-from-value c (d .0) .0)), unbroken-digits ds (d .1))
-
-small : {n : ℕ} → n ≤ 18 → (b : Bits n) → b .value < 10 ^ 9
-small {n} le b = let f = b .fits in omega (arith, pow-mono {i = n} {j = 18} le)
 
 unbroken-decimal : {n : ℕ} → n ≤ 18 → (b : Bits n) → Unbroken (decimal (b .value))
 unbroken-decimal le b = unbroken-digits (decimal (b .value)) (decimal-digits (b .value) (small le b))

@@ -10,6 +10,7 @@ use Rattle.std.specs.declared.option.Option.the-variants.{Some, None}
 use Rattle.std.proofs.shelf.Tests.{cond-true, cond-false, cond-both, eq-eqb, ne-eqb, eqb-true, eqb-false, and-from, and-parts, not-true, both-ways}
 use Rattle.std.proofs.shelf.Bits.{mod-below, mod-pow-add}
 use Rattle.bits.specs.declared.Bits.{Bits}
+use Rattle.bits.proofs.Options.{some-same, none-some}
 use Rattle.bits.proofs.Same.{same-bits}
 use Rattle.words.specs.declared.head.Head.{Head}
 use Rattle.words.specs.declared.entry.Entry.{Entry}
@@ -23,12 +24,6 @@ use Rattle.words.specs.Fields.{field, flag, clear, kind}
 use Rattle.words.specs.Heads.{headWord, headIn, HeadOf}
 use Rattle.words.specs.Entries.{entryWord, entryIn, EntryOf}
 use Rattle.words.specs.Instructions.{cellBits, codeBits, instructionWord, cellIn, codeIn, withCode, ofKind, instructionIn, InstructionOf}
-
-some-same : {X : Type 0} {x y : X} → _≡_ {A = Option X} (Some x) (Some y) → x ≡ y
-some-same e = cc
-
-none-some : {X P : Type 0} {x : X} → _≡_ {A = Option X} None (Some x) → P
-none-some e = let z : _≡_ {A = ℕ} 0 1 = cc in absurd (omega arith)
 
 -- what a test lets through passed the test
 let-through : {X : Type 0} (b : Bool) (o : Option X) (x : X) → cond b o None ≡ Some x → (b ≡ true) × (o ≡ Some x)
