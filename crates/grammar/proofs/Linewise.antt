@@ -19,7 +19,7 @@ use Rattle.bits.specs.declared.Bits.{Bits}
 use Rattle.words.specs.declared.head.Head.{Head}
 use Rattle.words.specs.declared.entry.Entry.{Entry}
 use Rattle.lexer.specs.Tokens.{Said, word, plain, plus, register, Placed, tokenAt}
-use Rattle.lexer.specs.Fields.{Field, stands, ends, leading, leadingBy, firstWord, numberField}
+use Rattle.lexer.specs.Fields.{Field, stands, ends, wordIn, wordBy, firstWord, numberField}
 use Rattle.lines.specs.Forms.{then, named, closed, lastly}
 use Rattle.lines.specs.Lines.{inside, headOf, headFields, headFrom, headLine, startedBy, numberPair, entryOf, entryBy, entryFrom, entryLine}
 use Rattle.grammar.specs.Printed.{printedNumber, lineOf, printedHead, printedEntry}
@@ -70,16 +70,16 @@ module _ {X : Type 0} {P : List ℕ → ℕ → Field X} {p : X → List ℕ} {G
 
 -- the first word of a line
 pub first-printed : (w rest : List ℕ) → Wordlike w → Stops rest → firstWord (w ++ rest) ≡ Some (w, length w)
-first-printed w rest like stop = ap leadingBy (token-printed (w ++ rest) 0 (word w) rest like refl stop) ∙ ap (λ (k : ℕ). Some (w, k)) (zero-add (length w))
+first-printed w rest like stop = ap wordBy (token-printed (w ++ rest) 0 (word w) rest like refl stop) ∙ ap (λ (k : ℕ). Some (w, k)) (zero-add (length w))
 
 pub first-read : (line w : List ℕ) (next : ℕ) → firstWord line ≡ Some (w, next) → line ≡ w ++ drop next line
 first-read line w next e = go (tokenAt line 0) refl e
   where
-    go : (o : Option Placed) → tokenAt line 0 ≡ o → leadingBy o ≡ Some (w, next) → line ≡ w ++ drop next line
+    go : (o : Option Placed) → tokenAt line 0 ≡ o → wordBy o ≡ Some (w, next) → line ≡ w ++ drop next line
     go None is e = none-some e
     go (Some p) is e = by (p .token) refl e
       where
-        by : (t : Said) → p .token ≡ t → leading t (p .next) ≡ Some (w, next) → line ≡ w ++ drop next line
+        by : (t : Said) → p .token ≡ t → wordIn t (p .next) ≡ Some (w, next) → line ≡ w ++ drop next line
         by (plain v) t e = none-some e
         by (plus v) t e = none-some e
         by register t e = none-some e

@@ -10,34 +10,26 @@ use lib.ListN.{length, getD, take, drop}
 use Rattle.std.specs.Reads.{Digits, value}
 use Rattle.std.specs.Text.{asciiDigit}
 use Rattle.std.specs.Written.{decimal}
+use Rattle.std.specs.shelf.Lists.{All, leading}
+use Rattle.std.proofs.shelf.Sums.{leading-le-length}
 use Rattle.std.specs.declared.option.Option.{Option}
 use Rattle.std.specs.declared.option.Option.the-variants.{Some, None}
 use Rattle.std.proofs.shelf.Numerals.{value-short}
 use Rattle.std.proofs.shelf.Decimals.{digits-decimal, value-decimal, decimal-some, first-decimal, length-decimal-le, decimal-value, decimal-digit}
 use Rattle.std.proofs.shelf.Lists.{take-at, drop-drop, take-append-drop, length-take-le}
-use Rattle.std.proofs.shelf.Tests.{cond-true, cond-false, and-parts, leb-true, or-cases, eqb-true, eqb-false, not-true, cases-lt}
+use Rattle.std.proofs.shelf.Tests.{cond-true, and-parts, leb-true, or-cases, eqb-true, eqb-false, not-true, cases-lt}
 use Rattle.std.proofs.shelf.Ways.{tells}
 use Rattle.bits.proofs.Options.{some-same, none-some}
-use Rattle.lexer.specs.Numbers.{run, digitsAt, formed, numberBy, numberAt}
-use Rattle.lexer.proofs.Scans.{own, digit-is, digits-run}
-
--- what stands behind a number is no digit
-pub run-digits : (ds rest : List ℕ) → Digits 10 ds → asciiDigit (getD rest 0 0) ≡ false → run (ds ++ rest) ≡ length ds
-run-digits [] [] d stop = refl
-run-digits [] (c ∷ cs) d stop = cond-false (asciiDigit c) _ _ stop
-run-digits (c ∷ ds) rest d stop = cond-true (asciiDigit c) _ _ (digit-is c (d .0)) ∙ omega (arith, run-digits ds rest (d .1) stop)
+use Rattle.lexer.specs.Numbers.{digitsAt, formed, numberBy, numberAt}
+use Rattle.lexer.proofs.Scans.{own, digit-is, digits-leading, leading-all}
 
 formed-right : (n z : ℕ) → 1 ≤ n → n ≤ 9 → (n ≡ 1) ⊎ (z ≡ 48 → ⊥) → formed n z ≡ true
 formed-right n z l h (inl e) = grind (arith, tells)
 formed-right n z l h (inr f) = grind (arith, tells)
 
-pub run-le : (bs : List ℕ) → run bs ≤ length bs
-run-le [] = omega arith
-run-le (c ∷ cs) = go (asciiDigit c) refl (run-le cs)
-  where
-    go : (b : Bool) → asciiDigit c ≡ b → run cs ≤ length cs → run (c ∷ cs) ≤ length (c ∷ cs)
-    go true e more = rw e (omega arith)
-    go false e more = rw e (omega arith)
+digits-pass : (ds : List ℕ) → Digits 10 ds → All (λ c. asciiDigit c ≡ true) ds
+digits-pass [] d = tt
+digits-pass (c ∷ ds) d = (digit-is c (d .0), digits-pass ds (d .1))
 
 -- a number of nine digits at most, as it is printed
 module _ (v : ℕ) (small : v < 10 ^ 9) where
@@ -50,17 +42,17 @@ module _ (v : ℕ) (small : v < 10 ^ 9) where
   pub decimal-long : (0 < length (decimal v)) × (length (decimal v) ≤ 9)
   decimal-long = (decimal-some v (omega arith), length-decimal-le 9 v (omega arith) small (omega arith))
 
-  leading : (length (decimal v) ≡ 1) ⊎ (getD (decimal v) 0 0 ≡ 48 → ⊥)
-  leading = ⊎-elim (λ z. inl (ap (λ (n : ℕ). length (decimal n)) z ∙ ap length (decimal-digit 0 (omega arith)))) (λ some. inr (λ e. omega (arith, first-decimal v some (omega arith)))) (zero-or v)
+  no-zero : (length (decimal v) ≡ 1) ⊎ (getD (decimal v) 0 0 ≡ 48 → ⊥)
+  no-zero = ⊎-elim (λ z. inl (ap (λ (n : ℕ). length (decimal n)) z ∙ ap length (decimal-digit 0 (omega arith)))) (λ some. inr (λ e. omega (arith, first-decimal v some (omega arith)))) (zero-or v)
     where
       zero-or : (n : ℕ) → (n ≡ 0) ⊎ (0 < n)
       zero-or n = ⊎-elim (λ lt. inr lt) (λ le. inl (omega arith)) (cases-lt 0 n)
 
   pub number-printed : (text : List ℕ) (at : ℕ) (rest : List ℕ) → drop at text ≡ decimal v ++ rest → asciiDigit (getD rest 0 0) ≡ false → numberAt text at ≡ Some (v, at + length (decimal v))
   number-printed text at rest e stop =
-      let n : run (drop at text) ≡ length (decimal v) = ap run e ∙ run-digits (decimal v) rest decimal-digits stop in
+      let n : leading asciiDigit (drop at text) ≡ length (decimal v) = ap (leading asciiDigit) e ∙ leading-all asciiDigit (decimal v) rest (digits-pass (decimal v) decimal-digits) stop in
       let part : digitsAt text at ≡ decimal v = (λ i. take (n i) (e i)) ∙ take-at (decimal v) rest (length (decimal v)) refl in
-      let right : formed (length (decimal v)) (getD (decimal v) 0 0) ≡ true = formed-right (length (decimal v)) (getD (decimal v) 0 0) (decimal-long .0) (decimal-long .1) leading in
+      let right : formed (length (decimal v)) (getD (decimal v) 0 0) ≡ true = formed-right (length (decimal v)) (getD (decimal v) 0 0) (decimal-long .0) (decimal-long .1) no-zero in
       ap (numberBy at) part ∙ cond-true (formed (length (decimal v)) (getD (decimal v) 0 0)) _ _ right ∙ ap (λ (x : ℕ). Some (x, at + length (decimal v))) decimal-worth
 
 pub number-read : (text : List ℕ) (at v next : ℕ) → numberAt text at ≡ Some (v, next) → (drop at text ≡ decimal v ++ drop next text) × (next ≡ at + length (decimal v)) × (v < 10 ^ 9)
@@ -82,10 +74,11 @@ number-read text at v next e = go (formed (length ds) (getD ds 0 0)) refl e
         let few = leb-true (length ds) 9 (others .0) in
         let worth : value 10 ds ≡ v = ap (λ (p : ℕ × ℕ). p .0) (some-same e) in
         let there : at + length ds ≡ next = ap (λ (p : ℕ × ℕ). p .1) (some-same e) in
-        let long : length ds ≡ run bs = length-take-le (run bs) bs (run-le bs) in
-        let bound : value 10 ds < 10 ^ 9 = value-short own ds 9 (digits-run bs) few in
-        let whole : decimal v ≡ ds = ap decimal (sym worth) ∙ decimal-value own ds (digits-run bs) some (lone (length ds) (getD ds 0 0) (others .1)) (omega arith) in (
-          sym (take-append-drop (run bs) bs) ∙ (λ i. sym whole i ++ (drop-drop (run bs) at text ∙ ap (λ (k : ℕ). drop k text) (ap (λ (k : ℕ). at + k) (sym long) ∙ there)) i),
+        let n = leading asciiDigit bs in
+        let long : length ds ≡ n = length-take-le n bs (leading-le-length asciiDigit bs) in
+        let bound : value 10 ds < 10 ^ 9 = value-short own ds 9 (digits-leading bs) few in
+        let whole : decimal v ≡ ds = ap decimal (sym worth) ∙ decimal-value own ds (digits-leading bs) some (lone (length ds) (getD ds 0 0) (others .1)) (omega arith) in (
+          sym (take-append-drop n bs) ∙ (λ i. sym whole i ++ (drop-drop n at text ∙ ap (λ (k : ℕ). drop k text) (ap (λ (k : ℕ). at + k) (sym long) ∙ there)) i),
           sym there ∙ ap (λ (k : ℕ). at + k) (sym (ap length whole)),
           omega arith,
         )

@@ -1,6 +1,6 @@
 -- A token is read exactly where it is spelled out.
 use mathlib.Core.Path.{_≡_, refl, sym, ap, subst, _∙_}
-use mathlib.Core.Bool.{Bool, true, false, cond, _&&_, _||_}
+use mathlib.Core.Bool.{Bool, true, false, cond, _&&_}
 use mathlib.Core.List.{List, [], _∷_, _++_}
 use mathlib.Core.Logic.{_⊎_, inl, inr}
 use Prim.Native.Nat.{ℕ, _+_, _-_, _^_, _≤_, _<_}
@@ -11,15 +11,17 @@ use lib.ListN.{length, getD, take, drop}
 use Rattle.std.specs.Reads.{Digits}
 use Rattle.std.specs.Text.{asciiDigit, digitValue}
 use Rattle.std.specs.Written.{decimal}
+use Rattle.std.specs.shelf.Lists.{All, leading}
+use Rattle.std.proofs.shelf.Sums.{leading-le-length}
 use Rattle.std.specs.declared.option.Option.{Option}
 use Rattle.std.specs.declared.option.Option.the-variants.{Some, None}
 use Rattle.std.proofs.shelf.Lists.{take-at, drop-drop, drop-more, take-append-drop, length-take-le, length-drop, getD-append-left, getD-drop}
 use Rattle.std.proofs.shelf.Numerals.{digit-from-value}
-use Rattle.std.proofs.shelf.Tests.{cond-true, cond-false, or-from, or-left, or-right, and-parts, and-left, eq-eqb, ne-eqb, eqb-true, eqb-false, cond-both}
+use Rattle.std.proofs.shelf.Tests.{cond-true, cond-false, and-parts, and-left, eq-eqb, ne-eqb, eqb-true, eqb-false, cond-both}
 use Rattle.lexer.specs.Numbers.{numberAt}
-use Rattle.lexer.specs.Tokens.{Said, word, plain, plus, register, Placed, wide, whole, saidBy, between, fieldBy, tokenAt}
+use Rattle.lexer.specs.Tokens.{Said, word, plain, plus, register, Placed, inField, whole, saidBy, between, fieldBy, tokenAt}
 use Rattle.bits.proofs.Options.{some-same, none-some}
-use Rattle.lexer.proofs.Scans.{digit-is}
+use Rattle.lexer.proofs.Scans.{digit-is, leading-all, space-ends, no-space}
 use Rattle.grammar.proofs.Numerals.{decimal-digits, decimal-long, number-printed, number-read}
 
 -- a space or a line's end
@@ -32,22 +34,11 @@ stops-digit rest (inr e) = ap asciiDigit e
 
 -- no byte is a space or a line's end
 abbrev pub Clean : List ℕ → Type 0
-Clean [] = Unit {0}
-Clean (c ∷ cs) = ((eqb c 32 || eqb c 10) ≡ false) × Clean cs
+Clean w = All (λ c. inField c ≡ true) w
 
 pub clean-digits : (ds : List ℕ) → Digits 10 ds → Clean ds
 clean-digits [] d = tt
-clean-digits (c ∷ ds) d = let range = digit-from-value c (d .0) in (or-from _ _ (ne-eqb c 32 (λ e. omega (arith, range .0))) (ne-eqb c 10 (λ e. omega (arith, range .0))), clean-digits ds (d .1))
-
-pub wide-clean : (w rest : List ℕ) → Clean w → Stops rest → wide (w ++ rest) ≡ length w
-wide-clean [] [] k stop = refl
-wide-clean [] (c ∷ cs) k (inl e) = cond-true (eqb c 32 || eqb c 10) _ _ (or-left _ _ (eq-eqb c 32 e))
-wide-clean [] (c ∷ cs) k (inr e) = cond-true (eqb c 32 || eqb c 10) _ _ (or-right _ _ (eq-eqb c 10 e))
-wide-clean (c ∷ w) rest k stop = cond-false (eqb c 32 || eqb c 10) _ _ (k .0) ∙ omega (arith, wide-clean w rest (k .1) stop)
-
-wide-le : (bs : List ℕ) → wide bs ≤ length bs
-wide-le [] = omega arith
-wide-le (c ∷ cs) = let more = wide-le cs in cond-both (eqb c 32 || eqb c 10) 0 (wide cs + 1) (λ (n : ℕ). n ≤ length (c ∷ cs)) (λ _. omega arith) (λ _. omega arith)
+clean-digits (c ∷ ds) d = let range = digit-from-value c (d .0) in (no-space c (λ e. omega (arith, range .0)) (λ e. omega (arith, range .0)), clean-digits ds (d .1))
 
 -- how a token is written
 abbrev pub spelled : Said → List ℕ
@@ -120,7 +111,7 @@ said-printed text at register rest p e stop =
 
 pub token-printed : (text : List ℕ) (at : ℕ) (t : Said) (rest : List ℕ) → Proper t → drop at text ≡ spelled t ++ rest → Stops rest → tokenAt text at ≡ Some (record { token = t; place = at; next = at + length (spelled t) })
 token-printed text at t rest p e stop =
-    let n : wide (drop at text) ≡ length (spelled t) = ap wide e ∙ wide-clean (spelled t) rest (spelled-clean t p) stop in
+    let n : leading inField (drop at text) ≡ length (spelled t) = ap (leading inField) e ∙ leading-all inField (spelled t) rest (spelled-clean t p) (space-ends (getD rest 0 0) stop) in
     ap (fieldBy text at) n
     ∙ cond-false (eqb (length (spelled t)) 0) _ _ (ne-eqb (length (spelled t)) 0 (λ z. omega (arith, spelled-some t p)))
     ∙ ap (between at (at + length (spelled t))) (said-printed text at t rest p e stop)
@@ -187,7 +178,7 @@ pub token-read : (text : List ℕ) (at : ℕ) (p : Placed) → tokenAt text at �
 token-read text at p e = go (eqb n 0) refl e
   where
     n : ℕ
-    n = wide (drop at text)
+    n = leading inField (drop at text)
 
     placed-at : (o : Option Said) → between at (at + n) o ≡ Some p → (o ≡ Some (p .token)) × (at + n ≡ p .next)
     placed-at None e = none-some e
@@ -197,7 +188,7 @@ token-read text at p e = go (eqb n 0) refl e
     go true z e = none-some e
     go false z e =
         let found = placed-at (saidBy text at n (getD text at 0)) e in
-        let written = said-read text at n (positive n (eqb-false n 0 z)) (wide-le (drop at text)) (p .token) (found .0) in (
+        let written = said-read text at n (positive n (eqb-false n 0 z)) (leading-le-length inField (drop at text)) (p .token) (found .0) in (
           written .0 ∙ ap (λ (k : ℕ). spelled (p .token) ++ drop k text) (found .1),
           sym (found .1) ∙ ap (λ (k : ℕ). at + k) (sym (written .1)),
         )

@@ -1,21 +1,21 @@
 -- How far the digits of a number and the bytes of a field go.
-use mathlib.Core.Path.{_≡_, refl, _∙_}
-use mathlib.Core.Bool.{Bool, true, false, _||_}
-use mathlib.Core.List.{List, [], _∷_}
+use mathlib.Core.Path.{_≡_, refl, ap, _∙_}
+use mathlib.Core.Bool.{Bool, true, false, not}
+use mathlib.Core.List.{List, [], _∷_, _++_}
 use mathlib.Core.Logic.{_⊎_, inl, inr}
 use Prim.Native.Nat.{ℕ, zero, suc, _+_, _-_, _^_, _≤_, _<_}
 use native.Mathlib.Omega.{arith}
-use native.Mathlib.Numerals.{add-one}
+use native.Mathlib.Numerals.{one-add}
 use lib.Dec.{leb, eqb}
-use lib.ListN.{length, getD, take, drop}
+use lib.ListN.{length, getD, take}
 use Rattle.std.specs.Reads.{Digits, value}
 use Rattle.std.specs.Text.{asciiDigit, digitValue}
-use Rattle.std.proofs.shelf.Lists.{at-drop-more, at-drop-all, length-take-le}
+use Rattle.std.specs.shelf.Lists.{All, leading}
+use Rattle.std.proofs.shelf.Lists.{length-take-le}
 use Rattle.std.proofs.shelf.Numerals.{Numerals, numerals-by-value, tells-digits, digit-from-value, digit-at, value-short}
-use Rattle.std.proofs.shelf.Tests.{cond-true, cond-false, and-from, and-parts, leb-true, le-leb, or-from, or-left, or-right, eq-eqb, ne-eqb}
+use Rattle.std.proofs.shelf.Tests.{cond-true, cond-false, and-from, and-parts, leb-true, le-leb, or-from, ne-eqb}
 use Rattle.std.proofs.shelf.Text.{digitValue-digit}
-use Rattle.lexer.specs.Numbers.{run}
-use Rattle.lexer.specs.Tokens.{wide}
+use Rattle.lexer.specs.Tokens.{inField}
 
 pub own : Numerals (Digits 10) (value 10)
 own = numerals-by-value (Digits 10) tells-digits
@@ -31,22 +31,19 @@ digit-of c e =
     let high = leb-true c 57 (parts .1) in
     omega (arith, digitValue-digit c (low, high))
 
-pub digits-run : (bs : List ℕ) → Digits 10 (take (run bs) bs)
-digits-run [] = tt
-digits-run (c ∷ cs) = go (asciiDigit c) refl (digits-run cs)
+-- so many bytes at the front pass a test, and what stands behind them does not
+pub leading-all : (p : ℕ → Bool) (xs rest : List ℕ) → All (λ c. p c ≡ true) xs → p (getD rest 0 0) ≡ false → leading p (xs ++ rest) ≡ length xs
+leading-all p [] [] all stop = refl
+leading-all p [] (c ∷ cs) all stop = cond-false (p c) _ _ stop
+leading-all p (x ∷ xs) rest all stop = cond-true (p x) _ _ (all .0) ∙ omega (arith, leading-all p xs rest (all .1) stop)
+
+pub digits-leading : (bs : List ℕ) → Digits 10 (take (leading asciiDigit bs) bs)
+digits-leading [] = tt
+digits-leading (c ∷ cs) = go (asciiDigit c) refl (digits-leading cs)
   where
-    go : (b : Bool) → asciiDigit c ≡ b → Digits 10 (take (run cs) cs) → Digits 10 (take (run (c ∷ cs)) (c ∷ cs))
-    go true e more = rw (e, add-one) (digit-of c e, more)
+    go : (b : Bool) → asciiDigit c ≡ b → Digits 10 (take (leading asciiDigit cs) cs) → Digits 10 (take (leading asciiDigit (c ∷ cs)) (c ∷ cs))
+    go true e more = rw (e, one-add) (digit-of c e, more)
     go false e more = rw e tt
-
-pub run-more : (text : List ℕ) (i : ℕ) → i < length text → asciiDigit (getD text i 0) ≡ true → run (drop i text) ≡ run (drop (i + 1) text) + 1
-run-more text i lt d = at-drop-more run text i 0 lt ∙ cond-true (asciiDigit (getD text i 0)) _ _ d
-
-pub run-ends : (text : List ℕ) (i : ℕ) → i < length text → asciiDigit (getD text i 0) ≡ false → run (drop i text) ≡ 0
-run-ends text i lt d = at-drop-more run text i 0 lt ∙ cond-false (asciiDigit (getD text i 0)) _ _ d
-
-pub run-past : (text : List ℕ) (i : ℕ) → length text ≤ i → run (drop i text) ≡ 0
-run-past text i h = at-drop-all run text i h
 
 -- a digit among nine: its value, and the bound on the number before it
 pub digit-value : (ds : List ℕ) (i : ℕ) → Digits 10 ds → i < length ds → (48 ≤ getD ds i 0) × (getD ds i 0 ≤ 57) × (digitValue (getD ds i 0) ≡ getD ds i 0 - 48)
@@ -60,12 +57,10 @@ digits-take (c ∷ ds) (suc i) d = (d .0, digits-take ds i (d .1))
 pub value-bound : (ds : List ℕ) (i : ℕ) → Digits 10 ds → length ds ≤ 9 → i < length ds → value 10 (take i ds) < 10 ^ 8
 value-bound ds i d few lt = value-short own (take i ds) 8 (digits-take ds i d) (omega (arith, length-take-le i ds (omega arith)))
 
-pub wide-more : (text : List ℕ) (i : ℕ) → i < length text → (getD text i 0 ≡ 32 → ⊥) → (getD text i 0 ≡ 10 → ⊥) → wide (drop i text) ≡ wide (drop (i + 1) text) + 1
-wide-more text i lt a b = at-drop-more wide text i 0 lt ∙ cond-false (eqb (getD text i 0) 32 || eqb (getD text i 0) 10) _ _ (or-from _ _ (ne-eqb _ _ a) (ne-eqb _ _ b))
+-- a byte that ends a field
+pub space-ends : (c : ℕ) → (c ≡ 32) ⊎ (c ≡ 10) → inField c ≡ false
+space-ends c (inl e) = ap inField e
+space-ends c (inr e) = ap inField e
 
-pub wide-ends : (text : List ℕ) (i : ℕ) → i < length text → (getD text i 0 ≡ 32) ⊎ (getD text i 0 ≡ 10) → wide (drop i text) ≡ 0
-wide-ends text i lt (inl a) = at-drop-more wide text i 0 lt ∙ cond-true (eqb (getD text i 0) 32 || eqb (getD text i 0) 10) _ _ (or-left _ _ (eq-eqb _ _ a))
-wide-ends text i lt (inr b) = at-drop-more wide text i 0 lt ∙ cond-true (eqb (getD text i 0) 32 || eqb (getD text i 0) 10) _ _ (or-right _ _ (eq-eqb _ _ b))
-
-pub wide-past : (text : List ℕ) (i : ℕ) → length text ≤ i → wide (drop i text) ≡ 0
-wide-past text i h = at-drop-all wide text i h
+pub no-space : (c : ℕ) → (c ≡ 32 → ⊥) → (c ≡ 10 → ⊥) → inField c ≡ true
+no-space c a b = ap not (or-from (eqb c 32) (eqb c 10) (ne-eqb c 32 a) (ne-eqb c 10 b))

@@ -35,18 +35,18 @@ wordTold None = None
 wordTold (Some p) = Some (p .0 .now, p .1)
 
 -- the word that a line begins with, and the place after it
-abbrev pub leading : Said → ℕ → Option (List ℕ × ℕ)
-leading (word w) next = Some (w, next)
-leading (plain v) next = None
-leading (plus v) next = None
-leading register next = None
+abbrev pub wordIn : Said → ℕ → Option (List ℕ × ℕ)
+wordIn (word w) next = Some (w, next)
+wordIn (plain v) next = None
+wordIn (plus v) next = None
+wordIn register next = None
 
-abbrev pub leadingBy : Option Placed → Option (List ℕ × ℕ)
-leadingBy None = None
-leadingBy (Some p) = leading (p .token) (p .next)
+abbrev pub wordBy : Option Placed → Option (List ℕ × ℕ)
+wordBy None = None
+wordBy (Some p) = wordIn (p .token) (p .next)
 
 abbrev pub firstWord : List ℕ → Option (List ℕ × ℕ)
-firstWord line = leadingBy (tokenAt line 0)
+firstWord line = wordBy (tokenAt line 0)
 
 -- the place after a field that is the word `name`
 abbrev pub spelt : List ℕ → Said → ℕ → Option ℕ

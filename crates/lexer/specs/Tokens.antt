@@ -1,10 +1,11 @@
 -- The token that stands at a place of a text.
-use mathlib.Core.Bool.{cond, _&&_, _||_}
-use mathlib.Core.List.{List, [], _∷_}
+use mathlib.Core.Bool.{Bool, cond, not, _&&_, _||_}
+use mathlib.Core.List.{List}
 use Prim.Native.Nat.{ℕ, _+_}
 use lib.Dec.{eqb}
 use lib.ListN.{getD, take, drop}
 use Rattle.std.specs.Text.{asciiDigit}
+use Rattle.std.specs.shelf.Lists.{leading}
 use Rattle.std.specs.declared.option.Option.{Option}
 use Rattle.std.specs.declared.option.Option.the-variants.{Some, None}
 use Rattle.lexer.specs.Numbers.{numberAt}
@@ -40,10 +41,9 @@ abbrev pub placed : Option Lexeme → Option Placed
 placed None = None
 placed (Some x) = Some (record { token = said (x .token); place = x .place; next = x .next })
 
--- how many bytes at the front are neither a space nor a line's end
-abbrev pub wide : List ℕ → ℕ
-wide [] = 0
-wide (c ∷ cs) = cond (eqb c 32 || eqb c 10) 0 (wide cs + 1)
+-- a byte of a field: neither a space nor a line's end
+abbrev pub inField : ℕ → Bool
+inField c = not (eqb c 32 || eqb c 10)
 
 -- a number that fills its field
 abbrev pub whole : (ℕ → Said) → ℕ → Option (ℕ × ℕ) → Option Said
@@ -69,4 +69,4 @@ fieldBy text at n = cond (eqb n 0) None (between at (at + n) (saidBy text at n (
 
 -- the token that begins at a place
 abbrev pub tokenAt : List ℕ → ℕ → Option Placed
-tokenAt text at = fieldBy text at (wide (drop at text))
+tokenAt text at = fieldBy text at (leading inField (drop at text))

@@ -4,7 +4,8 @@ ghost use Prim.Native.Nat.{_+_, _-_, _<_, _≤_};
 ghost use lib.ListN.{length, getD, drop};
 ghost use Rattle.std.specs.Reads.{Digits, value};
 ghost use Rattle.lexer.specs.Numbers.{digitsAt, numberAt};
-ghost use Rattle.lexer.specs.Tokens.{placed, spoken, saidBy, tokenAt, wide};
+ghost use Rattle.lexer.specs.Tokens.{placed, spoken, inField, saidBy, tokenAt};
+ghost use Rattle.std.specs.shelf.Lists.{leading};
 
 pub mod fields;
 
@@ -87,7 +88,7 @@ fn digits_value(digits: &[u8]) -> u32
 
 // How long the field is that begins at `at`.
 fn field_width(text: &[u8], at: usize) -> usize
-    ensures is { λ r. ⌜ r ≡ wide (drop at (now (text .entry))) ⌝ }
+    ensures is { λ r. ⌜ r ≡ leading inField (drop at (now (text .entry))) ⌝ }
     ensures within { λ r. ⌜ (0 < r → at + r ≤ length (now (text .entry))) ⌝ }
 {
     let mut end = at;
