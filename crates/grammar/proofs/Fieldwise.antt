@@ -4,7 +4,6 @@ use mathlib.Core.Bool.{Bool, true, false, cond}
 use mathlib.Core.List.{List, _∷_, _++_}
 use mathlib.Core.Logic.{inl}
 use Prim.Native.Nat.{ℕ, _+_, _-_, _^_, _≤_, _<_}
-use native.Mathlib.Nat.{add-zero}
 use native.Mathlib.Omega.{arith}
 use lib.Dec.{eqb, ltb}
 use lib.ListN.{length, getD, drop}
@@ -13,7 +12,7 @@ use Rattle.std.specs.Options.{mapped}
 use Rattle.std.specs.shelf.Text.{sameBytes}
 use Rattle.std.specs.declared.option.Option.{Option}
 use Rattle.std.specs.declared.option.Option.the-variants.{Some, None}
-use Rattle.std.proofs.shelf.Lists.{append-assoc, drop-drop, drop-at, drop-more, length-drop, length-append, getD-drop}
+use Rattle.std.proofs.shelf.Lists.{append-assoc, drop-drop, drop-at, drop-more, length-drop, length-append}
 use Rattle.std.proofs.shelf.Equals.{sameBytes-decides}
 use Rattle.std.proofs.shelf.Tests.{cond-true, and-from, and-parts, lt-ltb, ltb-true, eq-eqb, eqb-true}
 use Rattle.bits.specs.declared.Bits.{Bits}
@@ -28,7 +27,7 @@ use Rattle.lexer.specs.Fields.{Field, stands, fieldAt, spelt, speltBy, wordFiel
 use Rattle.lines.specs.Forms.{both, beside, thenBy, then, namedBy, named, before}
 use Rattle.grammar.specs.Printed.{printedNumber, printedCell, printedCode}
 use Rattle.bits.proofs.Options.{some-same, none-some}
-use Rattle.grammar.proofs.Spelling.{Stops, Wordlike, Proper, spelled, token-printed, token-read}
+use Rattle.grammar.proofs.Spelling.{Stops, Wordlike, Proper, spelled, byte-first, token-printed, token-read}
 
 -- fields that are read exactly where they are printed, with what has to stand behind them
 pub record Reads {X : Type 0} (P : List ℕ → ℕ → Field X) (print : X → List ℕ) (Good : X → Type 0) (Behind : List ℕ → Type 0) : Type 0 where
@@ -42,7 +41,7 @@ Any x = Unit {0}
 pub byte-at : (line : List ℕ) (at c : ℕ) (rest : List ℕ) → drop at line ≡ c ∷ rest → (at < length line) × (getD line at 0 ≡ c) × (drop (at + 1) line ≡ rest)
 byte-at line at c rest e = (
   omega (arith, length-drop at line, ap length e),
-  ap (λ (k : ℕ). getD line k 0) (sym (add-zero at)) ∙ sym (getD-drop at line 0 0) ∙ ap (λ (l : List ℕ). getD l 0 0) e,
+  byte-first line at ∙ ap (λ (l : List ℕ). getD l 0 0) e,
   sym (drop-drop 1 at line) ∙ ap (drop 1) e,
 )
 

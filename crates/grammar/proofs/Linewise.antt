@@ -24,7 +24,7 @@ use Rattle.lines.specs.Forms.{then, named, closed, lastly}
 use Rattle.lines.specs.Lines.{inside, headOf, headFields, headFrom, headLine, startedBy, numberPair, entryOf, entryBy, entryFrom, entryLine}
 use Rattle.grammar.specs.Printed.{printedNumber, lineOf, printedHead, printedEntry}
 use Rattle.bits.proofs.Options.{some-same, none-some}
-use Rattle.grammar.proofs.Spelling.{Stops, Wordlike, spelled, token-printed, token-read}
+use Rattle.grammar.proofs.Spelling.{Stops, Wordlike, wordlike-by, spelled, token-printed, token-read}
 use Rattle.grammar.proofs.Fieldwise.{Reads, Any, stands-at, number-reads, then-reads, named-reads}
 
 -- the end of a line
@@ -103,13 +103,13 @@ number-stops b rest = inl refl
 
 -- the words that a line may begin with, or name a field by
 like-lattice : Wordlike (codes "lattice")
-like-lattice = record { some = omega arith; clean = (refl, (refl, (refl, (refl, (refl, (refl, (refl, tt))))))); no-plus = refl; no-digit = refl; no-mark = refl }
+like-lattice = wordlike-by (codes "lattice") refl
 
 like-cells : Wordlike (codes "cells")
-like-cells = record { some = omega arith; clean = (refl, (refl, (refl, (refl, (refl, tt))))); no-plus = refl; no-digit = refl; no-mark = refl }
+like-cells = wordlike-by (codes "cells") refl
 
 like-tasks : Wordlike (codes "tasks")
-like-tasks = record { some = omega arith; clean = (refl, (refl, (refl, (refl, (refl, tt))))); no-plus = refl; no-digit = refl; no-mark = refl }
+like-tasks = wordlike-by (codes "tasks") refl
 
 -- `lattice L cells N tasks T`
 cells-reads : Reads (named (codes "cells") (numberField 10)) (λ (b : Bits 10). codes " cells" ++ printedNumber b) Any Stops
@@ -148,10 +148,10 @@ pub pair-reads : (m n : ℕ) → m ≤ 18 → n ≤ 18 → Reads (then (numberFi
 pair-reads m n low high = then-reads (number-reads m low) (number-reads n high) number-stops
 
 like-task : Wordlike (codes "task")
-like-task = record { some = omega arith; clean = (refl, (refl, (refl, (refl, tt)))); no-plus = refl; no-digit = refl; no-mark = refl }
+like-task = wordlike-by (codes "task") refl
 
 like-idle : Wordlike (codes "idle")
-like-idle = record { some = omega arith; clean = (refl, (refl, (refl, (refl, tt)))); no-plus = refl; no-digit = refl; no-mark = refl }
+like-idle = wordlike-by (codes "idle") refl
 
 -- `task P N` and `idle P N`
 entry-by : (started : Bool) (z : Bits 13 × Bits 14) → entryLine (printedEntry (entryOf started z)) ≡ Some (Some (entryOf started z))

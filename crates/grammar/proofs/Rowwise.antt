@@ -12,7 +12,7 @@ use Rattle.std.specs.Joined.{joined}
 use Rattle.std.specs.Written.{decimal}
 use Rattle.std.specs.declared.option.Option.{Option}
 use Rattle.std.specs.declared.option.Option.the-variants.{Some, None}
-use Rattle.std.proofs.shelf.Lists.{append-assoc, drop-drop, drop-at, length-append, getD-drop}
+use Rattle.std.proofs.shelf.Lists.{append-assoc, drop-drop, drop-at, length-append}
 use Rattle.std.proofs.shelf.Tests.{and-right}
 use Rattle.words.specs.declared.instruction.CodeOperand.{CodeOperand}
 use Rattle.words.specs.declared.instruction.CodeOperand.the-variants as code
@@ -21,7 +21,7 @@ use Rattle.lines.proofs.Rows.{row-next, row-none, row-ends}
 use Rattle.lines.specs.Forms.{ahead, before, firstly, rowAt, row}
 use Rattle.grammar.specs.Printed.{printedCode}
 use Rattle.bits.proofs.Options.{some-same, none-some}
-use Rattle.grammar.proofs.Spelling.{Stops}
+use Rattle.grammar.proofs.Spelling.{Stops, byte-first}
 use Rattle.grammar.proofs.Fieldwise.{Reads, stands-at, code-reads, code-stops}
 
 -- the line's end
@@ -37,7 +37,7 @@ codes-stop (v ∷ vs) rest end = subst Stops (sym (append-assoc (printedCode v) 
 
 no-space : (line : List ℕ) (at : ℕ) (rest : List ℕ) → drop at line ≡ rest → Ends rest → stands line at 32 ≡ false
 no-space line at rest e end =
-    let here : getD line at 0 ≡ 10 = ap (λ (k : ℕ). getD line k 0) (sym (add-zero at)) ∙ sym (getD-drop at line 0 0) ∙ ap (λ (l : List ℕ). getD l 0 0) e ∙ end in
+    let here : getD line at 0 ≡ 10 = byte-first line at ∙ ap (λ (l : List ℕ). getD l 0 0) e ∙ end in
     and-right (ltb at (length line)) (eqb (getD line at 0) 32) (ap (λ (c : ℕ). eqb c 32) here)
 
 -- a printed code begins with a space

@@ -1,12 +1,12 @@
 -- A token is read exactly where it is spelled out.
 use mathlib.Core.Path.{_≡_, refl, sym, ap, subst, _∙_}
-use mathlib.Core.Bool.{Bool, true, false, cond, _&&_}
+use mathlib.Core.Bool.{Bool, true, false, cond, not, _&&_}
 use mathlib.Core.List.{List, [], _∷_, _++_}
 use mathlib.Core.Logic.{_⊎_, inl, inr}
 use Prim.Native.Nat.{ℕ, _+_, _-_, _^_, _≤_, _<_}
 use native.Mathlib.Nat.{add-zero}
 use native.Mathlib.Omega.{arith}
-use lib.Dec.{eqb}
+use lib.Dec.{eqb, ltb}
 use lib.ListN.{length, getD, take, drop}
 use Rattle.std.specs.Reads.{Digits}
 use Rattle.std.specs.Text.{asciiDigit, digitValue}
@@ -17,12 +17,21 @@ use Rattle.std.specs.declared.option.Option.{Option}
 use Rattle.std.specs.declared.option.Option.the-variants.{Some, None}
 use Rattle.std.proofs.shelf.Lists.{take-at, drop-drop, drop-more, take-append-drop, length-take-le, length-drop, getD-append-left, getD-drop}
 use Rattle.std.proofs.shelf.Numerals.{digit-from-value}
-use Rattle.std.proofs.shelf.Tests.{cond-true, cond-false, and-parts, and-left, eq-eqb, ne-eqb, eqb-true, eqb-false, cond-both}
+use Rattle.std.proofs.shelf.Tests.{cond-true, cond-false, and-parts, and-left, eq-eqb, ne-eqb, eqb-true, eqb-false, cond-both, ltb-true, not-true}
 use Rattle.lexer.specs.Numbers.{numberAt}
 use Rattle.lexer.specs.Tokens.{Said, word, plain, plus, register, Placed, inField, whole, saidBy, between, fieldBy, tokenAt}
 use Rattle.bits.proofs.Options.{some-same, none-some}
 use Rattle.lexer.proofs.Scans.{digit-is, leading-all, space-ends, no-space}
 use Rattle.grammar.proofs.Numerals.{decimal-digits, decimal-long, number-printed, number-read}
+
+-- every byte passes a test
+abbrev pub passes : (ℕ → Bool) → List ℕ → Bool
+passes p [] = true
+passes p (c ∷ cs) = p c && passes p cs
+
+pub passes-all : (p : ℕ → Bool) (cs : List ℕ) → passes p cs ≡ true → All (λ c. p c ≡ true) cs
+passes-all p [] e = tt
+passes-all p (c ∷ cs) e = let parts = and-parts (p c) (passes p cs) e in (parts .0, passes-all p cs (parts .1))
 
 -- a space or a line's end
 abbrev pub Stops : List ℕ → Type 0
@@ -55,6 +64,24 @@ pub record Wordlike (w : List ℕ) : Type 0 where
   pub no-digit : asciiDigit (getD w 0 0) ≡ false
   pub no-mark : eqb (getD w 0 0) 114 ≡ false
 
+-- the same as one test, which computes at a word that is written out
+abbrev wordTest : List ℕ → Bool
+wordTest w = ltb 0 (length w) && (passes inField w && (not (eqb (getD w 0 0) 43) && (not (asciiDigit (getD w 0 0)) && not (eqb (getD w 0 0) 114))))
+
+pub wordlike-by : (w : List ℕ) → wordTest w ≡ true → Wordlike w
+wordlike-by w e =
+    let a = and-parts (ltb 0 (length w)) _ e in
+    let b = and-parts (passes inField w) _ (a .1) in
+    let c = and-parts (not (eqb (getD w 0 0) 43)) _ (b .1) in
+    let d = and-parts (not (asciiDigit (getD w 0 0))) _ (c .1) in
+    record {
+      some = ltb-true 0 (length w) (a .0);
+      clean = passes-all inField w (b .0);
+      no-plus = not-true _ (c .0);
+      no-digit = not-true _ (d .0);
+      no-mark = not-true _ (d .1);
+    }
+
 abbrev pub Proper : Said → Type 0
 Proper (word w) = Wordlike w
 Proper (plain v) = v < 10 ^ 9
@@ -73,8 +100,12 @@ spelled-some (plain v) p = decimal-long v p .0
 spelled-some (plus v) p = omega arith
 spelled-some register p = omega arith
 
+-- the byte at a place is the first of what stands from there on
+pub byte-first : (text : List ℕ) (at : ℕ) → getD text at 0 ≡ getD (drop at text) 0 0
+byte-first text at = ap (λ (k : ℕ). getD text k 0) (sym (add-zero at)) ∙ sym (getD-drop at text 0 0)
+
 first-is : (text : List ℕ) (at : ℕ) (w rest : List ℕ) → drop at text ≡ w ++ rest → 0 < length w → getD text at 0 ≡ getD w 0 0
-first-is text at w rest e some = ap (λ (k : ℕ). getD text k 0) (sym (add-zero at)) ∙ sym (getD-drop at text 0 0) ∙ ap (λ (l : List ℕ). getD l 0 0) e ∙ getD-append-left w rest 0 0 some
+first-is text at w rest e some = byte-first text at ∙ ap (λ (l : List ℕ). getD l 0 0) e ∙ getD-append-left w rest 0 0 some
 
 first-digit : (ds : List ℕ) → Digits 10 ds → 0 < length ds → digitValue (getD ds 0 0) < 10
 first-digit [] d some = absurd (omega arith)

@@ -24,7 +24,7 @@ use Rattle.lines.specs.declared.Keyword.{Keyword}
 use Rattle.lines.specs.declared.Keyword.the-variants.{End, Put, Get, Freeze, If, Has, Start, Let, Loop}
 use Rattle.grammar.specs.Printed.{printedCell, printedCode, lineOf, printedStatement, Formed}
 use Rattle.bits.proofs.Options.{some-same, none-some}
-use Rattle.grammar.proofs.Spelling.{Stops, Wordlike}
+use Rattle.grammar.proofs.Spelling.{Stops, Wordlike, wordlike-by}
 use Rattle.grammar.proofs.Fieldwise.{Reads, Any, number-reads, cell-reads, code-reads, cell-stops, code-stops, then-reads, then-some}
 use Rattle.grammar.proofs.Rowwise.{Ends, row-reads}
 use Rattle.grammar.proofs.Linewise.{inside-some, first-printed, fields-printed, fields-read, pair-reads}
@@ -42,15 +42,15 @@ name Let = codes "let"
 name Loop = codes "loop"
 
 wordlike : (k : Keyword) → Wordlike (name k)
-wordlike End = record { some = omega arith; clean = (refl, (refl, (refl, tt))); no-plus = refl; no-digit = refl; no-mark = refl }
-wordlike Put = record { some = omega arith; clean = (refl, (refl, (refl, tt))); no-plus = refl; no-digit = refl; no-mark = refl }
-wordlike Get = record { some = omega arith; clean = (refl, (refl, (refl, tt))); no-plus = refl; no-digit = refl; no-mark = refl }
-wordlike Freeze = record { some = omega arith; clean = (refl, (refl, (refl, (refl, (refl, (refl, tt)))))); no-plus = refl; no-digit = refl; no-mark = refl }
-wordlike If = record { some = omega arith; clean = (refl, (refl, tt)); no-plus = refl; no-digit = refl; no-mark = refl }
-wordlike Has = record { some = omega arith; clean = (refl, (refl, (refl, tt))); no-plus = refl; no-digit = refl; no-mark = refl }
-wordlike Start = record { some = omega arith; clean = (refl, (refl, (refl, (refl, (refl, tt))))); no-plus = refl; no-digit = refl; no-mark = refl }
-wordlike Let = record { some = omega arith; clean = (refl, (refl, (refl, tt))); no-plus = refl; no-digit = refl; no-mark = refl }
-wordlike Loop = record { some = omega arith; clean = (refl, (refl, (refl, (refl, tt)))); no-plus = refl; no-digit = refl; no-mark = refl }
+wordlike End = wordlike-by (name End) refl
+wordlike Put = wordlike-by (name Put) refl
+wordlike Get = wordlike-by (name Get) refl
+wordlike Freeze = wordlike-by (name Freeze) refl
+wordlike If = wordlike-by (name If) refl
+wordlike Has = wordlike-by (name Has) refl
+wordlike Start = wordlike-by (name Start) refl
+wordlike Let = wordlike-by (name Let) refl
+wordlike Loop = wordlike-by (name Loop) refl
 
 keyword-of : (k : Keyword) → keywordIn (name k) ≡ Some k
 keyword-of End = refl

@@ -10,7 +10,8 @@ use Rattle.std.specs.Text.{digitChar}
 use Rattle.std.specs.Written.{decimal}
 use Rattle.std.specs.declared.result.Result.{Result}
 use Rattle.std.specs.declared.result.Result.the-variants.{Ok, Err}
-use Rattle.text.specs.Reading.{readText}
+use Rattle.text.specs.declared.refusal.Cause.the-variants.{Grammar}
+use Rattle.text.specs.Reading.{number, readText}
 
 -- the lowest n digits of a number in base 16, in lower case
 unfoldable pub hexDigits : ℕ → ℕ → List ℕ
@@ -33,6 +34,6 @@ abbrev pub shown : Result (List ℕ) (ℕ × ℕ) → List ℕ
 shown (Ok ws) = listing ws
 shown (Err p) = refusal p
 
--- more than 60,000 bytes are refused, and a program has 8,192 words at most
+-- an input of more than 60,000 bytes is refused as a whole, at line 0; a program has 8,192 words at most
 abbrev pub sessionBytes : List ℕ → List ℕ
-sessionBytes input = cond (ltb 60000 (length input)) (refusal (1, 0)) (shown (readText 8192 input))
+sessionBytes input = cond (ltb 60000 (length input)) (refusal (number Grammar, 0)) (shown (readText 8192 input))

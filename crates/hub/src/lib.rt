@@ -10,6 +10,7 @@ ghost use Rattle.text.specs.Reading.{readText};
 ghost use lib.ListN.{length};
 use std::alloc::AllocError;
 use std::alloc::Global;
+use text::Cause;
 use text::read;
 
 // The most bytes that a session reads.
@@ -23,7 +24,7 @@ pub fn session(heap: Global, input: &[u8]) -> Result<String, AllocError>
     ensures { λ r. ⌜ made r (λ s. string-bytes s ≡ sessionBytes (now (input .entry))) ⌝ }
 {
     if input.len() > MOST_BYTES {
-        return refusal_line(heap, 1, 0);
+        return refusal_line(heap, Cause::Grammar.number(), 0);
     }
     let mut words = vec![in heap; 0; MOST_WORDS]?;
     answer(heap, input, words.as_mut_slice())

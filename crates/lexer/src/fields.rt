@@ -29,14 +29,14 @@ pub fn holds(line: &[u8], at: usize, byte: u8) -> bool
 pub fn line_ends(line: &[u8], at: usize) -> bool
     ensures { λ r. ⌜ r ≡ ends (now (line .entry)) at ⌝ }
 {
-    at < line.len() && line[at] == b'\n' && line.len() - at == 1
+    holds(line, at, b'\n') && line.len() - at == 1
 }
 
 // The field that follows one space.
 pub fn field<'a>(line: &'a [u8], at: usize) -> Option<Lexeme<'a>>
     ensures { λ r. ⌜ placed r ≡ fieldAt (now (line .entry)) at ⌝ }
 {
-    if at < line.len() && line[at] == b' ' {
+    if holds(line, at, b' ') {
         next_token(line, at + 1)
     } else {
         None

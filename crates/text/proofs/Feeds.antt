@@ -1,6 +1,6 @@
 -- The lines of a printed program are its lines.
 use mathlib.Core.Path.{_≡_, refl, sym, ap, _∙_}
-use mathlib.Core.Bool.{Bool, true, false, cond}
+use mathlib.Core.Bool.{Bool, true, false, cond, not}
 use mathlib.Core.List.{List, [], _∷_, _++_, map}
 use Prim.Native.Nat.{ℕ, _+_, _≤_}
 use native.Mathlib.Omega.{arith}
@@ -9,9 +9,11 @@ use lib.Dec.{eqb}
 use Rattle.std.specs.Joined.{joined}
 use Rattle.std.specs.Reads.{Digits}
 use Rattle.std.specs.Written.{decimal}
+use Rattle.std.specs.shelf.Lists.{All}
+use Rattle.std.proofs.shelf.Elements.{all-append}
 use Rattle.std.proofs.shelf.Lists.{append-assoc, append-nil}
 use Rattle.std.proofs.shelf.Numerals.{digit-from-value}
-use Rattle.std.proofs.shelf.Tests.{cond-true, cond-false, ne-eqb}
+use Rattle.std.proofs.shelf.Tests.{cond-true, cond-false, ne-eqb, not-true}
 use Rattle.bits.specs.declared.Bits.{Bits}
 use Rattle.words.specs.declared.head.Head.{Head}
 use Rattle.words.specs.declared.entry.Entry.{Entry}
@@ -23,21 +25,27 @@ use Rattle.lines.specs.Lines.{Statement, end-line, put-line, get-line, freeze-l
 use Rattle.grammar.specs.Printed.{printedNumber, printedCell, printedCode, lineOf, printedHead, printedEntry, printedStatement}
 use Rattle.grammar.specs.Programs.{Program, printed}
 use Rattle.grammar.proofs.Numerals.{decimal-digits}
+use Rattle.grammar.proofs.Spelling.{passes, passes-all}
 use Rattle.grammar.proofs.Fieldwise.{small}
 use Rattle.text.specs.Reading.{onto, linesOf}
 
 -- no byte is a line's end
+abbrev goesOn : ℕ → Bool
+goesOn c = not (eqb c 10)
+
 abbrev Unbroken : List ℕ → Type 0
-Unbroken [] = Unit {0}
-Unbroken (c ∷ cs) = (eqb c 10 ≡ false) × Unbroken cs
+Unbroken cs = All (λ c. goesOn c ≡ true) cs
 
 unbroken-append : (xs ys : List ℕ) → Unbroken xs → Unbroken ys → Unbroken (xs ++ ys)
-unbroken-append [] ys a b = b
-unbroken-append (x ∷ xs) ys a b = (a .0, unbroken-append xs ys (a .1) b)
+unbroken-append xs ys a b = all-append (λ c. goesOn c ≡ true) xs ys a b
+
+-- by a test, which computes at a word that is written out
+unbroken-by : (w : List ℕ) → passes goesOn w ≡ true → Unbroken w
+unbroken-by w e = passes-all goesOn w e
 
 unbroken-digits : (ds : List ℕ) → Digits 10 ds → Unbroken ds
 unbroken-digits [] d = tt
-unbroken-digits (c ∷ ds) d = (ne-eqb c 10 (λ e. omega (arith, digit-from-value c (d .0) .0)), unbroken-digits ds (d .1))
+unbroken-digits (c ∷ ds) d = (ap not (ne-eqb c 10 (λ e. omega (arith, digit-from-value c (d .0) .0))), unbroken-digits ds (d .1))
 
 unbroken-decimal : {n : ℕ} → n ≤ 18 → (b : Bits n) → Unbroken (decimal (b .value))
 unbroken-decimal le b = unbroken-digits (decimal (b .value)) (decimal-digits (b .value) (small le b))
@@ -63,7 +71,7 @@ unbroken-pair l h a b = unbroken-append (printedNumber a) (printedNumber b) (unb
 -- a line with one LF, at its end, is the first line of a text that begins with it
 lines-first : (b rest : List ℕ) → Unbroken b → linesOf ((b ++ (10 ∷ [])) ++ rest) ≡ (b ++ (10 ∷ [])) ∷ linesOf rest
 lines-first [] rest u = refl
-lines-first (c ∷ b) rest u = cond-false (eqb c 10) _ _ (u .0) ∙ ap (onto c) (lines-first b rest (u .1))
+lines-first (c ∷ b) rest u = cond-false (eqb c 10) _ _ (not-true (eqb c 10) (u .0)) ∙ ap (onto c) (lines-first b rest (u .1))
 
 abbrev First : List ℕ → Type 0
 First l = (rest : List ℕ) → linesOf (l ++ rest) ≡ l ∷ linesOf rest
@@ -77,28 +85,28 @@ head-first : (h : Head) → First (printedHead h)
 head-first h =
     let cells : List ℕ = codes " cells" ++ printedNumber (h .cells) in
     let tasks : List ℕ = codes " tasks" ++ printedNumber (h .tasks) in
-    line-first (codes "lattice") (printedNumber (h .label) ++ (cells ++ tasks)) (refl, (refl, (refl, (refl, (refl, (refl, (refl, tt)))))))
+    line-first (codes "lattice") (printedNumber (h .label) ++ (cells ++ tasks)) (unbroken-by (codes "lattice") refl)
     (unbroken-append (printedNumber (h .label)) (cells ++ tasks) (unbroken-number (omega arith) (h .label))
-    (unbroken-append cells tasks (refl, (refl, (refl, (refl, (refl, (refl, unbroken-number (omega arith) (h .cells)))))))
-    (refl, (refl, (refl, (refl, (refl, (refl, unbroken-number (omega arith) (h .tasks)))))))))
+    (unbroken-append cells tasks (unbroken-append (codes " cells") (printedNumber (h .cells)) (unbroken-by (codes " cells") refl) (unbroken-number (omega arith) (h .cells)))
+    (unbroken-append (codes " tasks") (printedNumber (h .tasks)) (unbroken-by (codes " tasks") refl) (unbroken-number (omega arith) (h .tasks)))))
 
 entry-first : (e : Entry) → First (printedEntry e)
 entry-first e = line-first (cond (e .started) (codes "task") (codes "idle")) (printedNumber (e .place) ++ printedNumber (e .argument)) (word (e .started)) (unbroken-pair (omega arith) (omega arith) (e .place) (e .argument))
   where
     word : (b : Bool) → Unbroken (cond b (codes "task") (codes "idle"))
-    word true = (refl, (refl, (refl, (refl, tt))))
-    word false = (refl, (refl, (refl, (refl, tt))))
+    word true = unbroken-by (codes "task") refl
+    word false = unbroken-by (codes "idle") refl
 
 statement-first : (s : Statement) → First (printedStatement s)
-statement-first end-line = line-first (codes "end") [] (refl, (refl, (refl, tt))) tt
-statement-first (put-line c v) = line-first (codes "put") (printedCell c ++ printedCode v) (refl, (refl, (refl, tt))) (unbroken-append (printedCell c) (printedCode v) (unbroken-cell c) (unbroken-code v))
-statement-first (get-line c vs) = line-first (codes "get") (printedCell c ++ joined printedCode vs) (refl, (refl, (refl, tt))) (unbroken-append (printedCell c) (joined printedCode vs) (unbroken-cell c) (unbroken-codes vs))
-statement-first (freeze-line c) = line-first (codes "freeze") (printedCell c) (refl, (refl, (refl, (refl, (refl, (refl, tt)))))) (unbroken-cell c)
-statement-first (if-line n p) = line-first (codes "if") (printedNumber n ++ printedNumber p) (refl, (refl, tt)) (unbroken-pair (omega arith) (omega arith) n p)
-statement-first (has-line c v) = line-first (codes "has") (printedCell c ++ printedCode v) (refl, (refl, (refl, tt))) (unbroken-append (printedCell c) (printedCode v) (unbroken-cell c) (unbroken-code v))
-statement-first (start-line t) = line-first (codes "start") (printedNumber t) (refl, (refl, (refl, (refl, (refl, tt))))) (unbroken-number (omega arith) t)
-statement-first (let-line n) = line-first (codes "let") (printedNumber n) (refl, (refl, (refl, tt))) (unbroken-number (omega arith) n)
-statement-first (loop-line n p) = line-first (codes "loop") (printedNumber n ++ printedNumber p) (refl, (refl, (refl, (refl, tt)))) (unbroken-pair (omega arith) (omega arith) n p)
+statement-first end-line = line-first (codes "end") [] (unbroken-by (codes "end") refl) tt
+statement-first (put-line c v) = line-first (codes "put") (printedCell c ++ printedCode v) (unbroken-by (codes "put") refl) (unbroken-append (printedCell c) (printedCode v) (unbroken-cell c) (unbroken-code v))
+statement-first (get-line c vs) = line-first (codes "get") (printedCell c ++ joined printedCode vs) (unbroken-by (codes "get") refl) (unbroken-append (printedCell c) (joined printedCode vs) (unbroken-cell c) (unbroken-codes vs))
+statement-first (freeze-line c) = line-first (codes "freeze") (printedCell c) (unbroken-by (codes "freeze") refl) (unbroken-cell c)
+statement-first (if-line n p) = line-first (codes "if") (printedNumber n ++ printedNumber p) (unbroken-by (codes "if") refl) (unbroken-pair (omega arith) (omega arith) n p)
+statement-first (has-line c v) = line-first (codes "has") (printedCell c ++ printedCode v) (unbroken-by (codes "has") refl) (unbroken-append (printedCell c) (printedCode v) (unbroken-cell c) (unbroken-code v))
+statement-first (start-line t) = line-first (codes "start") (printedNumber t) (unbroken-by (codes "start") refl) (unbroken-number (omega arith) t)
+statement-first (let-line n) = line-first (codes "let") (printedNumber n) (unbroken-by (codes "let") refl) (unbroken-number (omega arith) n)
+statement-first (loop-line n p) = line-first (codes "loop") (printedNumber n ++ printedNumber p) (unbroken-by (codes "loop") refl) (unbroken-pair (omega arith) (omega arith) n p)
 
 lines-each : {X : Type 0} (print : X → List ℕ) → ((x : X) → First (print x)) → (xs : List X) (rest : List ℕ) → linesOf (joined print xs ++ rest) ≡ map print xs ++ linesOf rest
 lines-each print each [] rest = refl
