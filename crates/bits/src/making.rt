@@ -2,7 +2,7 @@
 ghost use mathlib.Core.Path.{_≡_};
 ghost use Prim.Native.Nat.{_^_, _%_};
 ghost use lib.Dec.{ltb};
-ghost use Rattle.bits.specs.Fits.{fitted};
+ghost use Rattle.bits.specs.Fits.{fitted, lowest};
 use crate::Bits;
 
 impl<const N: u32> Bits<N> {
@@ -19,6 +19,12 @@ impl<const N: u32> Bits<N> {
 
     // The lowest N bits of a number.
     pub fn low(value: u32) -> Bits<N>
+        ensures { λ r. ⌜ r ≡ lowest N value ⌝ }
+    {
+        Self::trimmed(value)
+    }
+
+    fn trimmed(value: u32) -> Bits<N>
         ensures { λ r. ⌜ r .value ≡ value % 2 ^ N ⌝ }
     {
         Bits {
