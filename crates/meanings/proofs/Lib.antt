@@ -1,0 +1,10 @@
+pub mod Everywhere
+pub mod Packing
+pub mod Joining
+pub mod Slotwise
+pub mod SetLaws
+pub mod PeakLaws
+pub mod OnceLaws
+pub mod VersionsLaws
+pub mod LiftLaws
+pub mod BothLaws

@@ -1,0 +1,1 @@
+// What the lattices and layers mean, and that their laws hold: definitions and proofs, without code.
