@@ -1,13 +1,11 @@
--- The digits of a number in base 16, and the lines of a listing, one by one.
+-- The digits of a number in base 16, and the lines of words, one by one.
 use mathlib.Core.Path.{_≡_, refl, sym, ap, _∙_}
 use mathlib.Core.List.{List, [], _∷_, _++_}
 use Prim.Native.Nat.{ℕ, zero, suc, _+_, _-_, _/_, _%_, _<_}
 use native.Mathlib.Omega.{arith}
-use lib.Chars.{codes}
 use lib.ListN.{length, getD, take}
 use Rattle.std.specs.Joined.{joined}
 use Rattle.std.specs.Text.{digitChar}
-use Rattle.std.specs.Written.{decimal}
 use Rattle.std.proofs.shelf.Lists.{append-assoc, take-more, joined-more}
 use Rattle.std.proofs.shelf.Ways.{tells}
 use Rattle.hub.specs.Session.{hexDigits, wordLine}
@@ -33,18 +31,14 @@ hex-pushed start out new one n w d some before push single digit =
     ∙ append-assoc start (hexDigits (n - 1) (w / 16)) (digitChar (w % 16) ∷ [])
     ∙ ap (λ (l : List ℕ). start ++ l) (sym (hex-more n w some))
 
--- `words N` and some lines
-abbrev pub listed : ℕ → List ℕ → List ℕ
-listed n body = codes "words " ++ (decimal n ++ (10 ∷ body))
-
 -- one line more
-pub listed-more : (n i : ℕ) (ws old mid new : List ℕ) → i < length ws → old ≡ listed n (joined wordLine (take i ws)) → mid ≡ old ++ hexDigits 8 (getD ws i 0) → new ≡ mid ++ (10 ∷ []) → new ≡ listed n (joined wordLine (take (i + 1) ws))
-listed-more n i ws old mid new lt was digits feed =
+pub lines-more : (i : ℕ) (ws start old mid new : List ℕ) → i < length ws → old ≡ start ++ joined wordLine (take i ws) → mid ≡ old ++ hexDigits 8 (getD ws i 0) → new ≡ mid ++ (10 ∷ []) → new ≡ start ++ joined wordLine (take (i + 1) ws)
+lines-more i ws start old mid new lt was digits feed =
     let body = joined wordLine (take i ws) in
     let line = wordLine (getD ws i 0) in
     feed
     ∙ ap (λ (l : List ℕ). l ++ (10 ∷ [])) digits
     ∙ append-assoc old (hexDigits 8 (getD ws i 0)) (10 ∷ [])
     ∙ ap (λ (l : List ℕ). l ++ line) was
-    ∙ ap (λ (l : List ℕ). codes "words " ++ l) (append-assoc (decimal n) (10 ∷ body) line)
-    ∙ ap (listed n) (joined-more wordLine [] (take i ws) (getD ws i 0) ∙ ap (joined wordLine) (sym (take-more ws i 0 lt)))
+    ∙ append-assoc start body line
+    ∙ ap (λ (l : List ℕ). start ++ l) (joined-more wordLine [] (take i ws) (getD ws i 0) ∙ ap (joined wordLine) (sym (take-more ws i 0 lt)))

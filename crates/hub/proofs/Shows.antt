@@ -10,12 +10,12 @@ use Rattle.std.specs.declared.result.Result.the-variants.{Ok, Err}
 use Rattle.std.proofs.shelf.Lists.{take-at}
 use Rattle.std.proofs.shelf.Tests.{cond-false, le-ltb}
 use Rattle.text.specs.Reading.{readText, counted, written}
-use Rattle.hub.specs.Session.{listing, shown, sessionBytes}
+use Rattle.hub.specs.Session.{programShown, shown, sessionBytes}
 
-pub shown-read : (o : Result (List ℕ) (ℕ × ℕ)) (count : ℕ) (start after : List ℕ) → Ok count ≡ counted o → after ≡ written o start → listing (take (count - 0) after) ≡ shown o
+pub shown-read : (o : Result (List ℕ) (ℕ × ℕ)) (count : ℕ) (start after : List ℕ) → Ok count ≡ counted o → after ≡ written o start → programShown (take (count - 0) after) ≡ shown o
 shown-read (Ok ws) count start after e left =
     let n : count ≡ length ws = cc in
-    ap listing (ap (λ (k : ℕ). take k after) (sub-zero count ∙ n) ∙ ap (take (length ws)) left ∙ take-at ws (drop (length ws) start) (length ws) refl)
+    ap programShown (ap (λ (k : ℕ). take k after) (sub-zero count ∙ n) ∙ ap (take (length ws)) left ∙ take-at ws (drop (length ws) start) (length ws) refl)
 shown-read (Err p) count start after e left = let z : _≡_ {A = ℕ} 0 1 = cc in absurd (omega arith)
 
 pub shown-session : (input : List ℕ) (room : ℕ) → length input ≤ 60000 → room ≡ 8192 → shown (readText room input) ≡ sessionBytes input

@@ -1,1 +1,3 @@
+pub mod Objections
+pub mod Serving
 pub mod Session
