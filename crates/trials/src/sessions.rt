@@ -5,7 +5,7 @@ use std::alloc::Global;
 use std::test::*;
 
 const EXAMPLE_LISTING: &str =
-    "words 10\nf0300402\ne800c000\ne8014000\n10000001\n00000000\n20000001\n30000001\n20000001\n30000005\n00000000\n";
+    "lattice once width 2\nwords 10\nf0300402\ne800c000\ne8014000\n10000001\n00000000\n20000001\n30000001\n20000001\n30000005\n00000000\n";
 
 fn expect_printed(heap: Global, input: &[u8], printed: &str) -> Result<(), Fail> {
     let answer = session(heap, input)?;
@@ -17,9 +17,33 @@ fn words_are_listed(rt: LibcRuntime) -> Result<(), Fail> {
     expect_printed(rt.alloc(), EXAMPLE.as_bytes(), EXAMPLE_LISTING)?;
     expect_printed(
         rt.alloc(),
-        b"lattice 255 cells 1023 tasks 0\n",
-        "words 1\nfffffc00\n",
+        b"lattice 78 cells 1023 tasks 0\n",
+        "lattice both(set,once) width 10\nwords 1\nf4effc00\n",
     )
+}
+
+// The first words of what is printed for a program with this label.
+fn expect_lattice(heap: Global, label: u32, printed: &str) -> Result<(), Fail> {
+    let text = format!(heap, "lattice {label} cells 1 tasks 0\n")?;
+    let answer = session(heap, text.as_str().as_bytes())?;
+    check(answer.as_str().starts_with(printed)).note(format_args!("label {label}"))
+}
+
+#[test]
+fn five_lattices_are_served(rt: LibcRuntime) -> Result<(), Fail> {
+    let heap = rt.alloc();
+    for label in 0..256 {
+        let printed = match label {
+            1 => "lattice set width 8\nwords 1\n",
+            3 => "lattice once width 2\nwords 1\n",
+            4 => "lattice versions width 8\nwords 1\n",
+            34 => "lattice lift(peak) width 2\nwords 1\n",
+            78 => "lattice both(set,once) width 10\nwords 1\n",
+            _ => "refused 6 at 0\n",
+        };
+        expect_lattice(heap, label, printed)?;
+    }
+    Ok(())
 }
 
 #[test]
@@ -34,6 +58,17 @@ fn refusals_are_printed(rt: LibcRuntime) -> Result<(), Fail> {
         rt.alloc(),
         b"lattice 1 cells 1 tasks 2\ntask 0 0\n",
         "refused 1 at 3\n",
+    )?;
+    // The text is judged before its label.
+    expect_printed(
+        rt.alloc(),
+        b"lattice 2 cells 1 tasks 0\nput 0\n",
+        "refused 1 at 2\n",
+    )?;
+    expect_printed(
+        rt.alloc(),
+        b"lattice 2 cells 1 tasks 0\nput 0 0\n",
+        "refused 6 at 0\n",
     )
 }
 
@@ -47,7 +82,7 @@ fn long_inputs_are_refused(rt: LibcRuntime) -> Result<(), Fail> {
     let full = session(rt.alloc(), &input)?;
     check(
         full.as_str()
-            .starts_with("words 8192\nf0100400\n00000000\n"),
+            .starts_with("lattice set width 8\nwords 8192\nf0100400\n00000000\n"),
     )?;
     input.extend_from_slice(b"end\n")?;
     expect_printed(rt.alloc(), &input, "refused 3 at 8193\n")?;
