@@ -26,135 +26,55 @@ count-kept = λ i s. at (eqb (s .value) 3) i
 seven-written : value-of set-once 15 ≡ (meaning-of set .bottom, written (lowest 16 7))
 seven-written = ap (λ (o : Option (Bits 16)). (meaning-of set .bottom, slate o)) (fitted-value (lowest 16 7))
 
+-- a row, and those behind it
+infixr 4 _then_
+_then_ : {A B : Type 0} → A → B → A × B
+a then b = (a, b)
+
 pub table-stands : All Stands table
-unfolding packed decLt
-table-stands = (
-  refl,
-  (
-    refl,
-    (
-      refl,
-      (
-        refl,
-        (
-          refl,
-          (
-            refl,
-            (
-              refl,
-              (
-                refl,
-                (
-                  refl,
-                  (
-                    refl,
-                    (
-                      refl,
-                      (
-                        refl,
-                        (
-                          (refl, refl),
-                          (
-                            refl,
-                            (
-                              refl,
-                              (
-                                refl,
-                                (
-                                  (refl, refl),
-                                  (
-                                    refl,
-                                    (
-                                      refl,
-                                      (
-                                        refl,
-                                        (
-                                          refl,
-                                          (
-                                            refl,
-                                            (
-                                              (refl, count-kept),
-                                              (
-                                                refl,
-                                                (
-                                                  refl,
-                                                  (
-                                                    seven-written,
-                                                    (
-                                                      refl,
-                                                      (
-                                                        (refl, refl),
-                                                        (
-                                                          (refl, refl),
-                                                          (
-                                                            (refl, refl),
-                                                            (
-                                                              (refl, refl),
-                                                              (
-                                                                (refl, refl),
-                                                                (
-                                                                  (refl, refl),
-                                                                  (
-                                                                    refl,
-                                                                    (
-                                                                      refl,
-                                                                      (
-                                                                        (refl, refl),
-                                                                        (
-                                                                          (refl, refl),
-                                                                          (
-                                                                            (refl, refl),
-                                                                            (
-                                                                              (refl, refl),
-                                                                              (
-                                                                                (refl, refl),
-                                                                                (
-                                                                                  refl,
-                                                                                  (
-                                                                                    refl,
-                                                                                    (
-                                                                                      refl,
-                                                                                      tt,
-                                                                                    ),
-                                                                                  ),
-                                                                                ),
-                                                                              ),
-                                                                            ),
-                                                                          ),
-                                                                        ),
-                                                                      ),
-                                                                    ),
-                                                                  ),
-                                                                ),
-                                                              ),
-                                                            ),
-                                                          ),
-                                                        ),
-                                                      ),
-                                                    ),
-                                                  ),
-                                                ),
-                                              ),
-                                            ),
-                                          ),
-                                        ),
-                                      ),
-                                    ),
-                                  ),
-                                ),
-                              ),
-                            ),
-                          ),
-                        ),
-                      ),
-                    ),
-                  ),
-                ),
-              ),
-            ),
-          ),
-        ),
-      ),
-    ),
-  ),
-)
+unfolding packed decLt _then_
+table-stands =
+    refl
+    then refl
+    then refl
+    then refl
+    then refl
+    then refl
+    then refl
+    then refl
+    then refl
+    then refl
+    then refl
+    then refl
+    then (refl, refl)
+    then refl
+    then refl
+    then refl
+    then (refl, refl)
+    then refl
+    then refl
+    then refl
+    then refl
+    then refl
+    then (refl, count-kept)
+    then refl
+    then refl
+    then seven-written
+    then refl
+    then (refl, refl)
+    then (refl, refl)
+    then (refl, refl)
+    then (refl, refl)
+    then (refl, refl)
+    then (refl, refl)
+    then refl
+    then refl
+    then (refl, refl)
+    then (refl, refl)
+    then (refl, refl)
+    then (refl, refl)
+    then (refl, refl)
+    then refl
+    then refl
+    then refl
+    then tt

@@ -1,4 +1,4 @@
-// The worked cases of the lattices: proved as rows of one table, and answered by the code.
+// The worked cases of the lattices: proved as rows of one table, and put to the code.
 ghost use mathlib.Core.Path.{_≡_};
 ghost use mathlib.Core.Bool.{_&&_, true};
 ghost use lib.Dec.{eqb};
@@ -28,7 +28,8 @@ type Four = Both<Two, Two>;
 
 type Full = Both<Four, Four>;
 
-// The rows of the table stand, and the code answers them so.
+// Every row of the table stands: a fact of the meanings, which the lattices' own contracts tie to their code.
+// The body puts most rows to the code as well. A body that only said `true` would meet the second clause, so that is for the run.
 pub fn worked_cases() -> bool
     ensures rows { λ _. ⌜ All Stands table ⌝ }
     ensures answered { λ r. ⌜ r ≡ true ⌝ }

@@ -18,10 +18,10 @@ same-tests false y f g = sym (f refl)
 
 module _ (M : Meaning) (l : Laws M) where
   -- where a and b do not clash, nor their join and c, b and c do not, nor a and their join
-  rotated : (a b c : M .Value) → M .clash a b ≡ false → M .clash (M .join a b) c ≡ false → (M .clash b c ≡ false) × (M .clash a (M .join b c) ≡ false)
+  pub rotated : (a b c : M .Value) → M .clash a b ≡ false → M .clash (M .join a b) c ≡ false → (M .clash b c ≡ false) × (M .clash a (M .join b c) ≡ false)
   rotated a b c e f = or-parts (M .clash b c) (M .clash a (M .join b c)) (sym (l .clash-assoc a b c) ∙ or-from (M .clash a b) (M .clash (M .join a b) c) e f)
 
-  rotated-back : (a b c : M .Value) → M .clash b c ≡ false → M .clash a (M .join b c) ≡ false → (M .clash a b ≡ false) × (M .clash (M .join a b) c ≡ false)
+  pub rotated-back : (a b c : M .Value) → M .clash b c ≡ false → M .clash a (M .join b c) ≡ false → (M .clash a b ≡ false) × (M .clash (M .join a b) c ≡ false)
   rotated-back a b c e f = or-parts (M .clash a b) (M .clash (M .join a b) c) (l .clash-assoc a b c ∙ or-from (M .clash b c) (M .clash a (M .join b c)) e f)
 
   pub below-self : (a : M .Value) → M .below a a ≡ true

@@ -8,7 +8,7 @@ use Rattle.std.proofs.shelf.Tests.{cond-true, cond-false, le-ltb, lt-ltb, or-pa
 use Rattle.bits.specs.declared.Bits.{Bits}
 use Rattle.bits.specs.Fits.{lowest}
 use Rattle.lattice.specs.Meaning.{Meaning, Laws}
-use Rattle.lattice.proofs.Order.{same-tests}
+use Rattle.lattice.proofs.Order.{same-tests, rotated, rotated-back}
 use Rattle.lattice.specs.Widths.{wide}
 use Rattle.meanings.specs.Pairs.{even, half, both-clash, both-join, both-word, both-meaning}
 
@@ -35,35 +35,35 @@ module _ (K L : Meaning) (k : Laws K) (l : Laws L) where
       joined a b n ∙ (λ i. (k .join-comm (a .0) (b .0) (m .0) i, l .join-comm (a .1) (b .1) (m .1) i)) ∙ sym (joined b a (sym (clash-sym a b) ∙ n))
 
   -- where no clash is met under one bracketing, none is met under the other
-  rotated : (a b c : K .Value × L .Value) → both-clash K L a b ≡ false → both-clash K L (both-join K L a b) c ≡ false → (both-clash K L b c ≡ false) × (both-clash K L a (both-join K L b c) ≡ false)
-  rotated a b c n m =
+  turned : (a b c : K .Value × L .Value) → both-clash K L a b ≡ false → both-clash K L (both-join K L a b) c ≡ false → (both-clash K L b c ≡ false) × (both-clash K L a (both-join K L b c) ≡ false)
+  turned a b c n m =
       let s = apart a b n in
       let t = apart (K .join (a .0) (b .0), L .join (a .1) (b .1)) c (sym (ap (λ x. both-clash K L x c) (joined a b n)) ∙ m) in
-      let u = or-parts (K .clash (b .0) (c .0)) (K .clash (a .0) (K .join (b .0) (c .0))) (sym (k .clash-assoc (a .0) (b .0) (c .0)) ∙ or-from (K .clash (a .0) (b .0)) (K .clash (K .join (a .0) (b .0)) (c .0)) (s .0) (t .0)) in
-      let v = or-parts (L .clash (b .1) (c .1)) (L .clash (a .1) (L .join (b .1) (c .1))) (sym (l .clash-assoc (a .1) (b .1) (c .1)) ∙ or-from (L .clash (a .1) (b .1)) (L .clash (L .join (a .1) (b .1)) (c .1)) (s .1) (t .1)) in
+      let u = rotated K k (a .0) (b .0) (c .0) (s .0) (t .0) in
+      let v = rotated L l (a .1) (b .1) (c .1) (s .1) (t .1) in
       let w = unless b c (u .0) (v .0) in
       (w, ap (both-clash K L a) (joined b c w) ∙ unless a (K .join (b .0) (c .0), L .join (b .1) (c .1)) (u .1) (v .1))
 
-  rotated-back : (a b c : K .Value × L .Value) → both-clash K L b c ≡ false → both-clash K L a (both-join K L b c) ≡ false → (both-clash K L a b ≡ false) × (both-clash K L (both-join K L a b) c ≡ false)
-  rotated-back a b c n m =
+  turned-back : (a b c : K .Value × L .Value) → both-clash K L b c ≡ false → both-clash K L a (both-join K L b c) ≡ false → (both-clash K L a b ≡ false) × (both-clash K L (both-join K L a b) c ≡ false)
+  turned-back a b c n m =
       let s = apart b c n in
       let t = apart a (K .join (b .0) (c .0), L .join (b .1) (c .1)) (sym (ap (both-clash K L a) (joined b c n)) ∙ m) in
-      let u = or-parts (K .clash (a .0) (b .0)) (K .clash (K .join (a .0) (b .0)) (c .0)) (k .clash-assoc (a .0) (b .0) (c .0) ∙ or-from (K .clash (b .0) (c .0)) (K .clash (a .0) (K .join (b .0) (c .0))) (s .0) (t .0)) in
-      let v = or-parts (L .clash (a .1) (b .1)) (L .clash (L .join (a .1) (b .1)) (c .1)) (l .clash-assoc (a .1) (b .1) (c .1) ∙ or-from (L .clash (b .1) (c .1)) (L .clash (a .1) (L .join (b .1) (c .1))) (s .1) (t .1)) in
+      let u = rotated-back K k (a .0) (b .0) (c .0) (s .0) (t .0) in
+      let v = rotated-back L l (a .1) (b .1) (c .1) (s .1) (t .1) in
       let w = unless a b (u .0) (v .0) in
       (w, ap (λ x. both-clash K L x c) (joined a b w) ∙ unless (K .join (a .0) (b .0), L .join (a .1) (b .1)) c (u .1) (v .1))
 
   clash-assoc : (a b c : K .Value × L .Value) → (both-clash K L a b || both-clash K L (both-join K L a b) c) ≡ (both-clash K L b c || both-clash K L a (both-join K L b c))
   clash-assoc a b c = same-tests (both-clash K L a b || both-clash K L (both-join K L a b) c) (both-clash K L b c || both-clash K L a (both-join K L b c))
-      (λ e. let p = or-parts (both-clash K L a b) (both-clash K L (both-join K L a b) c) e in let q = rotated a b c (p .0) (p .1) in or-from (both-clash K L b c) (both-clash K L a (both-join K L b c)) (q .0) (q .1))
-      (λ e. let p = or-parts (both-clash K L b c) (both-clash K L a (both-join K L b c)) e in let q = rotated-back a b c (p .0) (p .1) in or-from (both-clash K L a b) (both-clash K L (both-join K L a b) c) (q .0) (q .1))
+      (λ e. let p = or-parts (both-clash K L a b) (both-clash K L (both-join K L a b) c) e in let q = turned a b c (p .0) (p .1) in or-from (both-clash K L b c) (both-clash K L a (both-join K L b c)) (q .0) (q .1))
+      (λ e. let p = or-parts (both-clash K L b c) (both-clash K L a (both-join K L b c)) e in let q = turned-back a b c (p .0) (p .1) in or-from (both-clash K L a b) (both-clash K L (both-join K L a b) c) (q .0) (q .1))
 
   join-assoc : (a b c : K .Value × L .Value) → both-clash K L a b ≡ false → both-clash K L (both-join K L a b) c ≡ false → both-join K L (both-join K L a b) c ≡ both-join K L a (both-join K L b c)
   join-assoc a b c n m =
       let s = apart a b n in
       let e : both-clash K L (K .join (a .0) (b .0), L .join (a .1) (b .1)) c ≡ false = sym (ap (λ x. both-clash K L x c) (joined a b n)) ∙ m in
       let t = apart (K .join (a .0) (b .0), L .join (a .1) (b .1)) c e in
-      let r = rotated a b c n m in
+      let r = turned a b c n m in
       let f : both-clash K L a (K .join (b .0) (c .0), L .join (b .1) (c .1)) ≡ false = sym (ap (both-clash K L a) (joined b c (r .0))) ∙ r .1 in
       ap (λ x. both-join K L x c) (joined a b n)
       ∙ joined (K .join (a .0) (b .0), L .join (a .1) (b .1)) c e
