@@ -1,4 +1,6 @@
 // Numbers that cannot hold more than N bits, so that a field's width is part of its type.
+#![tactic(auto)]
+
 ghost use Rattle.std.specs.Prelude.{◌^◌, ◌<◌};
 
 #[derive(Clone, Copy)]

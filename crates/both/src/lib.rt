@@ -1,4 +1,6 @@
 // Both: a value of one lattice beside a value of another.
+#![tactic(auto)]
+
 ghost use Rattle.std.specs.Prelude.{◌≡◌};
 ghost use Rattle.meanings.specs.Pairs.{both_meaning, even, half as halved};
 ghost use Rattle.meanings.proofs.BothLaws.{both_laws};

@@ -1,4 +1,6 @@
 // The worked cases of the lattices: proved as rows of one table, and put to the code.
+#![tactic(auto)]
+
 ghost use Rattle.std.specs.Prelude.{◌≡◌, true, ◌&&◌, ◌==◌};
 ghost use Rattle.std.specs.List.{AllByRecursion as All};
 ghost use Rattle.bits.specs.Fits.{lowest};

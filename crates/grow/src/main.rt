@@ -1,4 +1,6 @@
 // Reads a program's text from standard input, and prints its words or why it is refused.
+#![tactic(auto)]
+
 use hub::{MOST_BYTES, session};
 use std::io;
 use std::io::Read;

@@ -1,4 +1,6 @@
 // A lattice: what every part of the machine knows of its values.
+#![tactic(auto)]
+
 ghost use Rattle.std.specs.Prelude.{◌≡◌};
 ghost use Rattle.lattice.specs.Meaning.{Meaning, Laws};
 

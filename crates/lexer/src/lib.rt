@@ -1,4 +1,6 @@
 // The fields of a text's lines, cut out of the text one by one.
+#![tactic(auto)]
+
 ghost use Rattle.std.specs.Prelude.{◌≡◌, ◌+◌, ◌-◌, ◌<◌, ◌≤◌, length, drop, slice_index};
 ghost use Rattle.std.specs.Str.Parse.{AllDigits, digits_value};
 ghost use Rattle.lexer.specs.Numbers.{digits_at, number_at};

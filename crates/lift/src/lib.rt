@@ -1,4 +1,6 @@
 // Lift: the values of a lattice, and "nothing yet" below them all.
+#![tactic(auto)]
+
 ghost use Rattle.std.specs.Prelude.{◌≡◌};
 ghost use Rattle.meanings.specs.Lifts.{lift_join, lift_meaning, told};
 ghost use Rattle.meanings.proofs.LiftLaws.{lift_laws};

@@ -1,5 +1,7 @@
 // The lines of a text, one at a time: what each says, and the words it gives.
 // A line function answers none where the line breaks the grammar.
+#![tactic(auto)]
+
 ghost use Rattle.std.specs.Prelude.{◌≡◌, ◌+◌, ◌<◌, ◌≤◌, [], ◌∷◌, take};
 ghost use Rattle.std.specs.Option.{option_map};
 ghost use Rattle.words.specs.Instructions.{instruction_word};

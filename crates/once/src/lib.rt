@@ -1,4 +1,6 @@
 // Once: a number below 65,536, written once.
+#![tactic(auto)]
+
 ghost use Rattle.meanings.specs.Onces.{once_meaning};
 ghost use Rattle.meanings.proofs.OnceLaws.{once_laws};
 ghost use Rattle.once.specs.Means.{written_on};

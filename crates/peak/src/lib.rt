@@ -1,4 +1,6 @@
 // Peak: the highest reading of a thermometer, in tenths of a degree from -400 to 1,200.
+#![tactic(auto)]
+
 ghost use Rattle.std.specs.Prelude.{pos, negsuc, ◌≤ℤ◌};
 
 #[derive(Clone, Copy)]

@@ -1,4 +1,6 @@
 // The rules that a program is held to before it may run: their numbers, and why a program is refused.
+#![tactic(auto)]
+
 ghost use Rattle.std.specs.Prelude.{◌≡◌};
 ghost use Rattle.rulebook.specs.Refusals.{number as number_of};
 

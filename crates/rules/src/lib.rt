@@ -1,4 +1,6 @@
 // The check of a program, before it may run: no rule is broken, or which one is, and where.
+#![tactic(auto)]
+
 ghost use Rattle.std.specs.Prelude.{◌≡◌, OnOk};
 ghost use Rattle.rulebook.specs.Sound.{Sound};
 ghost use Rattle.rulebook.specs.Judgement.{first_broken, judged, judged_by, Judgement};

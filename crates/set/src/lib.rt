@@ -1,4 +1,6 @@
 // Set: a set of the numbers below 256, held as eight words.
+#![tactic(auto)]
+
 ghost use Rattle.std.specs.Prelude.{◌≡◌, ◌/◌, ◌%◌, ◌^◌, ◌<◌, if◌then◌else◌, ◌==◌, bit_or, nat_lt, slice_index};
 ghost use Rattle.meanings.specs.Sets.{set_meaning};
 ghost use Rattle.meanings.proofs.SetLaws.{set_laws};

@@ -1,4 +1,6 @@
 // Reads a program's text: words out, or a refusal with its line.
+#![tactic(auto)]
+
 pub mod reader;
 pub mod refusal;
 mod section;

@@ -1,4 +1,6 @@
 // Tests over several crates: the reader, the rules, what `grow` prints, and stacks of lattices.
+#![tactic(auto)]
+
 #[cfg(test)]
 mod accepted;
 #[cfg(test)]

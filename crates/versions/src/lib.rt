@@ -1,4 +1,6 @@
 // Versions: a count from 0 to 32,767 for each of eight slots.
+#![tactic(auto)]
+
 ghost use Rattle.std.specs.Prelude.{◌≡◌, ◌/◌, ◌%◌, nat_le};
 ghost use Rattle.bits.specs.Fits.{lowest};
 ghost use Rattle.meanings.specs.Versions.{larger as largest, versions_meaning};

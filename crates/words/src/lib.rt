@@ -1,4 +1,6 @@
 // The 32-bit words of a program: what each one says, and how it is written.
+#![tactic(auto)]
+
 pub use bits::{Bits, Code};
 
 pub mod entry;
