@@ -3,4 +3,4 @@ use Rattle.cases.proofs.set_words.Goals as goal
 
 pub returns : goal.returns
 unfolding packed
-returns c = c.has-word.ensures
+returns c = c.has_word.ensures

@@ -9,4 +9,4 @@ returns-then-digits-eq0 t c = sym (ap (λ (l : List ℕ). string_bytes c.args.ou
 pub returns : goal.returns
 returns t c =
     let small : c.digit.result < 128 = omega (arith, c.digit.ensures, digit_ascii (c.args.number % 16) (omega arith)) in
-    hex_pushed (string_bytes c.args.out.now) _ _ _ c.args.digits c.args.number c.digit.result (omega (arith, c.if-digits-eq0.false)) c.in-ok-push-hex.ensures c.in-ok-push.ensures.bytes (c.push.ensures.ascii small) c.digit.ensures
+    hex_pushed (string_bytes c.args.out.now) _ _ _ c.args.digits c.args.number c.digit.result (omega (arith, c.if-digits-eq0.false)) c.in_ok-push_hex.ensures c.in_ok-push.ensures.bytes (c.push.ensures.ascii small) c.digit.ensures

@@ -5,5 +5,5 @@ use Rattle.hub.proofs.session.Goals as goal
 
 pub returns : goal.returns
 returns c =
-    let long : length c.as-mut-slice.result.now ≡ 8192 = search rules in
-    IfOk-weaker c.answer.result _ _ (λ s e. e ∙ shown_session c.args.input.now (length c.as-mut-slice.result.now) c.if-input-gt-MOST-BYTES.false long) c.answer.ensures
+    let long : length c.as_mut_slice.result.now ≡ 8192 = search rules in
+    IfOk-weaker c.answer.result _ _ (λ s e. e ∙ shown_session c.args.input.now (length c.as_mut_slice.result.now) c.if-input-gt-MOST_BYTES.false long) c.answer.ensures

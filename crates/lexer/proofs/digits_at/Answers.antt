@@ -6,13 +6,13 @@ use Rattle.std.specs.List.{prefix_len}
 use Rattle.std.proofs.lemmas.List.Sums.{prefix_len-drop_yes, prefix_len-drop_no, prefix_len-drop_all}
 use Rattle.lexer.proofs.Scans.{digits_leading}
 use Rattle.lexer.proofs.digits_at.Goals as goal
-use Rattle.lexer.proofs.digits_at.Goals.{Left-loop-end, then-loop-end-test+else-is-ascii-digit, else-loop-end-test}
+use Rattle.lexer.proofs.digits_at.Goals.{Left-loop-end, then-loop-end-test+else-is_ascii_digit, else-loop-end-test}
 
 pub loop-end-preserved : goal.loop-end-preserved
 loop-end-preserved c = (
   omega (arith, c.loop-end.invariant.0),
   λ _. omega arith,
-  omega (arith, c.loop-end.invariant.2, prefix_len-drop_yes is_ascii_digit c.args.text.now c.loop-end.end 0 c.loop-end-test.true (sym c.if-is-ascii-digit.ensures.value)),
+  omega (arith, c.loop-end.invariant.2, prefix_len-drop_yes is_ascii_digit c.args.text.now c.loop-end.end 0 c.loop-end-test.true (sym c.if-is_ascii_digit.ensures.value)),
 )
 
 -- the loop ends where the digits do
@@ -21,7 +21,7 @@ ended c =
     let low = c.loop-end.invariant.0 in
     let rest = c.loop-end.invariant.2 in
     elim c.loop-end-test.branch [
-      | then-loop-end-test+else-is-ascii-digit w ↦ omega (arith, prefix_len-drop_no is_ascii_digit c.args.text.now c.loop-end.end 0 w.loop-end-test.true (sym w.if-is-ascii-digit.ensures.value))
+      | then-loop-end-test+else-is_ascii_digit w ↦ omega (arith, prefix_len-drop_no is_ascii_digit c.args.text.now c.loop-end.end 0 w.loop-end-test.true (sym w.if-is_ascii_digit.ensures.value))
       | else-loop-end-test w ↦ omega (arith, prefix_len-drop_all is_ascii_digit c.args.text.now c.loop-end.end w.loop-end-test.false)
     ]
 

@@ -5,14 +5,14 @@ use Rattle.std.proofs.lemmas.List.{take_all}
 use Rattle.lexer.proofs.Scans.{digit_value, value_bound}
 use Rattle.lexer.proofs.digits_value.Goals as goal
 
-pub overflow-mul-value : goal.overflow-mul-value
-overflow-mul-value c = omega (arith, c.loop-digit.invariant, value_bound c.args.digits.now c.loop-digit.digit-index c.requires.all c.requires.few c.loop-digit-test.true)
+pub overflow_mul-value : goal.overflow_mul-value
+overflow_mul-value c = omega (arith, c.loop-digit.invariant, value_bound c.args.digits.now c.loop-digit.digit-index c.requires.all c.requires.few c.loop-digit-test.true)
 
-pub overflow-sub-value : goal.overflow-sub-value
-overflow-sub-value c = (digit_value c.args.digits.now c.loop-digit.digit-index c.requires.all c.loop-digit-test.true).0
+pub overflow_sub-value : goal.overflow_sub-value
+overflow_sub-value c = (digit_value c.args.digits.now c.loop-digit.digit-index c.requires.all c.loop-digit-test.true).0
 
-pub overflow-add-value : goal.overflow-add-value
-overflow-add-value c =
+pub overflow_add-value : goal.overflow_add-value
+overflow_add-value c =
     let digit = digit_value c.args.digits.now c.loop-digit.digit-index c.requires.all c.loop-digit-test.true in
     omega (arith, digit.1, c.loop-digit.invariant, value_bound c.args.digits.now c.loop-digit.digit-index c.requires.all c.requires.few c.loop-digit-test.true)
 

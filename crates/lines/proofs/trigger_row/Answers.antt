@@ -3,10 +3,10 @@ use Rattle.lines.specs.Forms.{row_told, AtMostEight, Eight}
 use Rattle.lines.proofs.Rows.{row_some, row_turn, row_broken, row_full, row_over, stored_eight}
 use Rattle.lines.proofs.trigger_row.Goals as goal
 
-pub returns-in-err-code : goal.returns-in-err-code
-returns-in-err-code c =
-    let none = c.from-residual.ensures in
-    let broken = row_broken c.args.line.now c.args.start c.loop-count.at c.loop-count.count c.loop-count.words c.loop-count.invariant.2 c.loop-count-test.true (sym c.if-holds.ensures) (sym c.in-err-code.ensures) in
+pub returns-in_err-code : goal.returns-in_err-code
+returns-in_err-code c =
+    let none = c.from_residual.ensures in
+    let broken = row_broken c.args.line.now c.args.start c.loop-count.at c.loop-count.count c.loop-count.words c.loop-count.invariant.2 c.loop-count-test.true (sym c.if-holds.ensures) (sym c.in_err-code.ensures) in
     record {
       is = ap row_told none ∙ broken ∙ row_some c.args.line.now c.args.start (sym c.if-not-holds.ensures);
       within = subst AtMostEight (sym none) tt;
@@ -15,9 +15,9 @@ returns-in-err-code c =
 pub loop-count-preserved : goal.loop-count-preserved
 loop-count-preserved c =
     let is = c.store-words.ensures in
-    let turn = row_turn c.args.line.now c.args.start c.loop-count.at c.loop-count.count c.loop-count.words c.loop-count.invariant.2 c.in-ok-code.code c.in-ok-code.next c.loop-count-test.true c.loop-count.invariant.1 (sym c.if-holds.ensures) (sym c.in-ok-code.ensures) in (
+    let turn = row_turn c.args.line.now c.args.start c.loop-count.at c.loop-count.count c.loop-count.words c.loop-count.invariant.2 c.in_ok-code.code c.in_ok-code.next c.loop-count-test.true c.loop-count.invariant.1 (sym c.if-holds.ensures) (sym c.in_ok-code.ensures) in (
       omega arith,
-      subst Eight (sym is) (stored_eight c.loop-count.words c.loop-count.count c.in-ok-code.code c.loop-count.invariant.1),
+      subst Eight (sym is) (stored_eight c.loop-count.words c.loop-count.count c.in_ok-code.code c.loop-count.invariant.1),
       rw is turn,
     )
 

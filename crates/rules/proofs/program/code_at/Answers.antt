@@ -7,12 +7,12 @@ always : {P : Type 0} (o : Option Instruction) → P → IfSome o (λ _. P)
 always None p = tt
 always (Some i) p = p
 
-pub returns-then-in-code : goal.returns-then-in-code
+pub returns-then-in_code : goal.returns-then-in_code
 unfolding code_at
-returns-then-in-code c =
+returns-then-in_code c =
     let inside : c.args.place < length c.args.words.now = search rules in
     record { is = search rules; within = always _ inside }
 
-pub returns-else-in-code : goal.returns-else-in-code
+pub returns-else-in_code : goal.returns-else-in_code
 unfolding code_at
-returns-else-in-code c = record { is = search rules; within = tt }
+returns-else-in_code c = record { is = search rules; within = tt }

@@ -4,8 +4,8 @@ use Rattle.rulebook.specs.Rules.{clashes_with_all, pairs_clash, trigger_value}
 use Rattle.rules.proofs.Passes.{pass_stop, pass_more, pass_all}
 use Rattle.rules.proofs.triggers.clash_in_pairs.Goals as goal
 
-pub returns-then-not-clash-with : goal.returns-then-not-clash-with
-returns-then-not-clash-with g c =
+pub returns-then-not-clash_with : goal.returns-then-not-clash_with
+returns-then-not-clash_with g c =
     let m = g.L.Lattice.meaning in
     let row = c.args.row.now in
     let rest = take_rest row (c.loop-i.i + 1) in

@@ -10,7 +10,7 @@ returns-then-back-counted c =
     let ws = c.args.words.now in
     let p = c.args.place in
     let q = p - c.loop-back.back in
-    let n : c.counted.result ≡ counted_by (code_at ws q) = c.counted.ensures.is ∙ ap counted_by c.code-at.ensures.is in
+    let n : c.counted.result ≡ counted_by (code_at ws q) = c.counted.ensures.is ∙ ap counted_by c.code_at.ensures.is in
     sym (some_at (λ r. leb p (r + counted_by (code_at ws r))) p q (omega arith) (le-leb p (q + counted_by (code_at ws q)) (omega arith)))
 
 pub returns : goal.returns

@@ -6,14 +6,14 @@ use Rattle.rules.proofs.triggers.run_end.Goals as goal
 pub loop-end-preserved : goal.loop-end-preserved
 unfolding run
 loop-end-preserved c = (
-  omega (arith, c.loop-end.invariant.0, prefix_len-drop_yes is_trigger c.args.words.now c.loop-end.end 0 c.loop-end-test.true (sym c.is-trig.ensures ∙ c.if-is-trig.true)),
+  omega (arith, c.loop-end.invariant.0, prefix_len-drop_yes is_trigger c.args.words.now c.loop-end.end 0 c.loop-end-test.true (sym c.is_trig.ensures ∙ c.if-is_trig.true)),
   omega arith,
 )
 
-pub returns-else-is-trig : goal.returns-else-is-trig
+pub returns-else-is_trig : goal.returns-else-is_trig
 unfolding run
-returns-else-is-trig c = record {
-  is = omega (arith, c.loop-end.invariant.0, prefix_len-drop_no is_trigger c.args.words.now c.loop-end.end 0 c.loop-end-test.true (sym c.is-trig.ensures ∙ c.if-is-trig.false));
+returns-else-is_trig c = record {
+  is = omega (arith, c.loop-end.invariant.0, prefix_len-drop_no is_trigger c.args.words.now c.loop-end.end 0 c.loop-end-test.true (sym c.is_trig.ensures ∙ c.if-is_trig.false));
   within = omega (arith, c.loop-end.invariant.1);
 }
 

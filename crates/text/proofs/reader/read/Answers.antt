@@ -15,10 +15,10 @@ written-numbered (Err e) out = refl
 pub returns : goal.returns
 returns c =
     let gave = reading (length c.args.words.now) c.args.text.now in
-    let answer = c.read-words.ensures.answer in
-    let after = c.read-words.ensures.after in
+    let answer = c.read_words.ensures.answer in
+    let after = c.read_words.ensures.after in
     record {
       answer = ap answered answer ∙ counted-numbered gave;
       after = after ∙ written-numbered gave c.args.words.now;
-      grammar = grammar_holds c.args.text.now c.args.words.now c.read-words.new.words c.read-words.result answer after;
+      grammar = grammar_holds c.args.text.now c.args.words.now c.read_words.new.words c.read_words.result answer after;
     }

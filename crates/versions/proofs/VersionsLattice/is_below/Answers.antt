@@ -25,10 +25,10 @@ loop-slot-preserved c =
     let here = get_or_default first slot (lowest 15 0) c.index-self-slot.result within in
     let there = get_or_default second slot (lowest 15 0) c.index-other-slot.result beside in
     passing_more (lowest 15 0) (λ a b. leb a.value b.value) first second slot c.loop-slot.invariant
-    ((λ i. leb (here i).value (there i).value) ∙ sym c.if-not-is-behind.ensures)
+    ((λ i. leb (here i).value (there i).value) ∙ sym c.if-not-is_behind.ensures)
 
-pub returns-then-not-is-behind : goal.returns-then-not-is-behind
-returns-then-not-is-behind c =
+pub returns-then-not-is_behind : goal.returns-then-not-is_behind
+returns-then-not-is_behind c =
     let slot = c.loop-slot.slot in
     let first = c.args.self.now.counts in
     let second = c.args.other.now.counts in
@@ -37,4 +37,4 @@ returns-then-not-is-behind c =
     let here = get_or_default first slot (lowest 15 0) c.index-self-slot.result within in
     let there = get_or_default second slot (lowest 15 0) c.index-other-slot.result beside in
     sym (every_fails {n = 3} (λ s. leb (get_or first s.value (lowest 15 0)).value (get_or second s.value (lowest 15 0)).value) (record { value = slot; fits = c.loop-slot-test.true })
-    ((λ i. leb (here i).value (there i).value) ∙ sym c.if-not-is-behind.ensures))
+    ((λ i. leb (here i).value (there i).value) ∙ sym c.if-not-is_behind.ensures))

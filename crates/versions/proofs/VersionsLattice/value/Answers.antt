@@ -10,6 +10,6 @@ pub returns : goal.returns
 returns c =
     let zeros : (k : ℕ) → get_or (replicate 8 c.low-counts.result) k (lowest 15 0) ≡ lowest 15 0 =
     λ k. ap (λ (b : Bits 15). get_or (replicate 8 b) k (lowest 15 0)) c.low-counts.ensures ∙ blank (lowest 15 0) 8 k in
-    let slot : c.slot-of.result < 8 = omega (arith, c.slot-of.ensures) in
-    slot_written (replicate 8 c.low-counts.result) c.slot-of.result c.count-of.result slot zeros
-    ∙ (λ i. single (c.slot-of.ensures i) (c.count-of.ensures i))
+    let slot : c.slot_of.result < 8 = omega (arith, c.slot_of.ensures) in
+    slot_written (replicate 8 c.low-counts.result) c.slot_of.result c.count_of.result slot zeros
+    ∙ (λ i. single (c.slot_of.ensures i) (c.count_of.ensures i))

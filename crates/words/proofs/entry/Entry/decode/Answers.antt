@@ -5,6 +5,6 @@ use Rattle.words.proofs.entry.Entry.decode.Goals as goal
 
 pub returns : goal.returns
 returns c = record {
-  is = c.entry-in.ensures;
-  inverse = subst (EntryOf c.args.word) (sym c.entry-in.ensures) (entry_of c.args.word c.ranges.word.fits);
+  is = c.entry_in.ensures;
+  inverse = subst (EntryOf c.args.word) (sym c.entry_in.ensures) (entry_of c.args.word c.ranges.word.fits);
 }

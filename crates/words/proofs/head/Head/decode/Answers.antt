@@ -5,6 +5,6 @@ use Rattle.words.proofs.head.Head.decode.Goals as goal
 
 pub returns : goal.returns
 returns c = record {
-  is = c.head-in.ensures;
-  inverse = subst (HeadOf c.args.word) (sym c.head-in.ensures) (head_of c.args.word c.ranges.word.fits);
+  is = c.head_in.ensures;
+  inverse = subst (HeadOf c.args.word) (sym c.head_in.ensures) (head_of c.args.word c.ranges.word.fits);
 }

@@ -5,6 +5,6 @@ use Rattle.words.proofs.instruction.Instruction.decode.Goals as goal
 
 pub returns : goal.returns
 returns c = record {
-  is = c.instruction-in.ensures;
-  inverse = subst (InstructionOf c.args.word) (sym c.instruction-in.ensures) (instruction_of c.args.word c.ranges.word.fits);
+  is = c.instruction_in.ensures;
+  inverse = subst (InstructionOf c.args.word) (sym c.instruction_in.ensures) (instruction_of c.args.word c.ranges.word.fits);
 }

@@ -4,4 +4,4 @@ use Rattle.words.proofs.Inverses.{instruction_written}
 use Rattle.words.proofs.instruction.Instruction.encode.Goals as goal
 
 pub returns : goal.returns
-returns c = record { is = c.instruction-word.ensures; inverse = ap instruction_in c.instruction-word.ensures ∙ instruction_written c.args.self }
+returns c = record { is = c.instruction_word.ensures; inverse = ap instruction_in c.instruction_word.ensures ∙ instruction_written c.args.self }
