@@ -117,25 +117,25 @@ fn code(number: u32) -> Code
 }
 
 fn admits<L: Lattice>(number: u32) -> bool
-    ensures { result ≡ meaning.admits (lowest 18 number) }
+    ensures { result ≡ L.meaning.admits (lowest 18 number) }
 {
     L::admits(code(number))
 }
 
 fn clash<L: Lattice + Drop>(first: u32, second: u32) -> bool
-    ensures { result ≡ meaning.clash (meaning.value (lowest 18 first)) (meaning.value (lowest 18 second)) }
+    ensures { result ≡ L.meaning.clash (L.meaning.value (lowest 18 first)) (L.meaning.value (lowest 18 second)) }
 {
     L::value(code(first)).clashes(&L::value(code(second)))
 }
 
 fn has_word<L: Lattice + Drop>(number: u32, i: u8, word: u32) -> bool
-    ensures { result ≡ ((meaning.word (meaning.value (lowest 18 number)) i).value == word) }
+    ensures { result ≡ ((L.meaning.word (L.meaning.value (lowest 18 number)) i).value == word) }
 {
     L::value(code(number)).word(i) == word
 }
 
 fn tells<L: Lattice>(label: u8, width: u8) -> bool
-    ensures { result ≡ (meaning.label.value == label && meaning.width == width) }
+    ensures { result ≡ (L.meaning.label.value == label && L.meaning.width == width) }
 {
     L::label() == label && L::width() == width
 }

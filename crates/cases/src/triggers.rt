@@ -44,7 +44,7 @@ fn trigger_rows() -> bool
 }
 
 fn loads<L: Lattice + Drop>(words: &[u32], cells: usize, tasks: usize) -> bool
-    ensures { result ≡ loaded_with cells tasks (judged meaning words.now) }
+    ensures { result ≡ loaded_with cells tasks (judged L.meaning words.now) }
 {
     match check::<L>(words) {
         Ok(counts) => counts.cells == cells && counts.tasks == tasks,
@@ -53,7 +53,7 @@ fn loads<L: Lattice + Drop>(words: &[u32], cells: usize, tasks: usize) -> bool
 }
 
 fn refuses<L: Lattice + Drop>(words: &[u32], number: u32, place: usize) -> bool
-    ensures { result ≡ refused_with number place (judged meaning words.now) }
+    ensures { result ≡ refused_with number place (judged L.meaning words.now) }
 {
     match check::<L>(words) {
         Ok(_) => false,

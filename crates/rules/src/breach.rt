@@ -19,7 +19,7 @@ const MOST_WIDTH: u8 = 64;
 
 // What is missing at the end of a program is missed at the word count.
 pub(crate) fn breaks_at<L: Lattice + Drop>(words: &[u32], rule: Rule, place: usize) -> bool
-    ensures { result ≡ breaks meaning rule words.now place }
+    ensures { result ≡ breaks L.meaning rule words.now place }
 {
     match rule {
         Rule::WordCount => place == 0 && (words.is_empty() || words.len() > MOST_WORDS),
@@ -53,7 +53,7 @@ fn is_between(low: u32, number: u32, high: u32) -> bool
 
 // Whether a program has the lattice's label, and the lattice's values have few enough words.
 fn fits_lattice<L: Lattice>(words: &[u32]) -> bool
-    ensures { result ≡ fits_lattice meaning (head_of words.now) }
+    ensures { result ≡ fits_lattice L.meaning (head_of words.now) }
 {
     match head(words) {
         Some(head) => head.label.get() == u32::from(L::label()) && L::width() <= MOST_WIDTH,
@@ -140,7 +140,7 @@ fn is_lost_cell(words: &[u32], cell: CellOperand) -> bool
 }
 
 fn has_unknown_code<L: Lattice>(code: Option<Instruction>) -> bool
-    ensures { result ≡ unknown_code meaning code }
+    ensures { result ≡ unknown_code L.meaning code }
 {
     let Some(code) = code else {
         return false;
@@ -155,7 +155,7 @@ fn has_unknown_code<L: Lattice>(code: Option<Instruction>) -> bool
 
 // A code that is taken from R is looked at when it is met.
 fn is_unknown<L: Lattice>(code: CodeOperand) -> bool
-    ensures { result ≡ unknown meaning code }
+    ensures { result ≡ unknown L.meaning code }
 {
     match code {
         CodeOperand::Fixed(code) if !L::admits(code) => true,
@@ -165,7 +165,7 @@ fn is_unknown<L: Lattice>(code: CodeOperand) -> bool
 
 // Whether two triggers of the GET at a place do not clash.
 fn is_ambiguous<L: Lattice + Drop>(words: &[u32], place: usize) -> bool
-    ensures { result ≡ ambiguous meaning words.now place (code_at words.now place) }
+    ensures { result ≡ ambiguous L.meaning words.now place (code_at words.now place) }
 {
     let Some(code) = code_at(words, place) else {
         return false;

@@ -29,22 +29,22 @@ const TABLE: [Rule; 8] = [
 
 // How many cells and tasks a program has, or the first rule that it breaks and the first place where it does.
 pub fn check<L: Lattice + Drop>(words: &[u32]) -> Result<Counts, Refusal>
-    ensures is { result ≡ judged meaning words.now }
-    ensures law { Judgement meaning words.now result }
-    ensures sound { OnOk result (Sound meaning words.now) }
+    ensures is { result ≡ judged L.meaning words.now }
+    ensures law { Judgement L.meaning words.now result }
+    ensures sound { OnOk result (Sound L.meaning words.now) }
 {
     judge::<L>(words)
 }
 
 fn judge<L: Lattice + Drop>(words: &[u32]) -> Result<Counts, Refusal>
-    ensures { result ≡ judged meaning words.now }
+    ensures { result ≡ judged L.meaning words.now }
 {
     judge_by::<L>(words, &TABLE)
 }
 
 // What some rules, in turn, make of a program.
 fn judge_by<L: Lattice + Drop>(words: &[u32], rules: &[Rule]) -> Result<Counts, Refusal>
-    ensures { result ≡ judged_by meaning words.now rules.now }
+    ensures { result ≡ judged_by L.meaning words.now rules.now }
 {
     for rule in rules {
         if let Some(place) = first_broken::<L>(words, *rule) {
@@ -56,7 +56,7 @@ fn judge_by<L: Lattice + Drop>(words: &[u32], rules: &[Rule]) -> Result<Counts, 
 
 // The first place where a program breaks a rule. What is missing at its end is missed at the word count.
 fn first_broken<L: Lattice + Drop>(words: &[u32], rule: Rule) -> Option<usize>
-    ensures { result ≡ first_broken meaning words.now rule }
+    ensures { result ≡ first_broken L.meaning words.now rule }
 {
     for place in 0..=words.len() {
         if breaks_at::<L>(words, rule, place) {

@@ -84,13 +84,13 @@ pub(crate) fn is_good_row(count: u32, row: &[u32]) -> bool
 }
 
 fn value_of<L: Lattice>(trigger: u32) -> L
-    ensures { means result ≡ trigger_value meaning trigger }
+    ensures { L.means result ≡ trigger_value L.meaning trigger }
 {
     L::value(Bits::low(trigger))
 }
 
 fn clash_with<L: Lattice + Drop>(value: &L, others: &[u32]) -> bool
-    ensures { result ≡ clashes_with_all meaning (means value.now) others.now }
+    ensures { result ≡ clashes_with_all L.meaning (L.means value.now) others.now }
 {
     for other in others {
         if !value.clashes(&value_of::<L>(*other)) {
@@ -102,7 +102,7 @@ fn clash_with<L: Lattice + Drop>(value: &L, others: &[u32]) -> bool
 
 // Whether each two triggers of a row clash.
 pub(crate) fn clash_in_pairs<L: Lattice + Drop>(row: &[u32]) -> bool
-    ensures { result ≡ pairs_clash meaning row.now }
+    ensures { result ≡ pairs_clash L.meaning row.now }
 {
     for (i, trigger) in row.iter().enumerate() {
         if !clash_with(&value_of::<L>(*trigger), &row[i + 1..]) {
