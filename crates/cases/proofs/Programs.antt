@@ -9,4 +9,4 @@ use Rattle.cases.specs.Triggers.{Judges, programs}
 
 pub programs_judged : All Judges programs
 unfolding dec_lt judged_by first_broken first_from some_below head_of entry_at code_at run
-programs_judged = (refl, (_, refl, refl), (_, refl, refl), (_, refl, refl), tt)
+programs_judged = (refl, ((_, refl, refl), ((_, refl, refl), ((_, refl, refl), tt))))
