@@ -163,5 +163,5 @@ fn a_text_of_sixty_thousand_bytes(rt: HostRuntime) -> Result<(), Fail> {
     assert_eq!(rt; text.len(), 60_000);
     assert_eq!(rt; words.len(), 18_854);
     expect_words(&rt, rt.alloc(), &text, 20_000, &words)?;
-    expect_refusal(&rt, rt.alloc(), &text, 18_853, 3, 3006)
+    expect_refusal(&rt, rt.alloc(), &text, 18_853, 3, 3006, "60,000 bytes")
 }

@@ -1,6 +1,7 @@
 // Programs and what the rules make of them: each row has the words, and the number of the refusal and its place,
 // or 0 and 0 for a program that is accepted.
 use both::Both;
+use cases::trigger_cases;
 use lattice::Lattice;
 use lift::Lift;
 use once::Once;
@@ -555,29 +556,33 @@ static OVER_ONCE: [(&[u32], u32, usize); 14] = [
     (&[ONCE_HEAD, TASK, 0x2000_0001, 0x3400_0000, END], 0, 0),
 ];
 
-fn expect_judgement<L: Lattice + Drop>(
-    rt: &impl Abort,
-    words: &[u32],
-    number: u32,
-    place: usize,
-) -> Result<(), Fail> {
-    let answer = match rules::check::<L>(words) {
+// The number and the place of a program's refusal, or 0 and 0.
+fn judgement<L: Lattice + Drop>(words: &[u32]) -> (u32, usize) {
+    match rules::check::<L>(words) {
         Ok(_) => (0, 0),
         Err(refusal) => (refusal.rule.number(), refusal.place),
-    };
-    assert_eq!(rt; answer, (number, place));
-    Ok(())
+    }
+}
+
+fn expect_judgement<L: Lattice + Drop>(rt: &impl Abort, words: &[u32], number: u32, place: usize) {
+    assert_eq!(rt; judgement::<L>(words), (number, place));
+}
+
+fn expect_judgements<L: Lattice + Drop>(rt: &impl Abort, rows: &[(&[u32], u32, usize)]) {
+    for (at, (words, number, place)) in rows.iter().enumerate() {
+        assert_eq!(rt; judgement::<L>(words), (*number, *place), "row {at}");
+    }
 }
 
 #[test]
-fn programs_are_judged(rt: HostRuntime) -> Result<(), Fail> {
-    for (at, (words, number, place)) in OVER_SET.iter().enumerate() {
-        expect_judgement::<Set>(&rt, words, *number, *place).note(format_args!("row {at}"))?;
-    }
-    for (at, (words, number, place)) in OVER_ONCE.iter().enumerate() {
-        expect_judgement::<Once>(&rt, words, *number, *place).note(format_args!("row {at}"))?;
-    }
-    Ok(())
+fn the_trigger_cases_stand(rt: HostRuntime) {
+    assert!(rt; trigger_cases());
+}
+
+#[test]
+fn programs_are_judged(rt: HostRuntime) {
+    expect_judgements::<Set>(&rt, &OVER_SET);
+    expect_judgements::<Once>(&rt, &OVER_ONCE);
 }
 
 // A program of so many words, all END behind a task that is started at a place.
@@ -594,15 +599,16 @@ fn long_program(heap: Global, entry: u32, count: usize) -> Result<Vec<u32>, Fail
 #[test]
 fn programs_are_judged_at_their_limits(rt: HostRuntime) -> Result<(), Fail> {
     let mut words = long_program(rt.alloc(), 8_191, 8_192)?;
-    expect_judgement::<Set>(&rt, &words, 0, 0)?;
+    expect_judgement::<Set>(&rt, &words, 0, 0);
     words.push(END)?;
-    expect_judgement::<Set>(&rt, &words, 4, 0)?;
-    expect_judgement::<Once>(&rt, &words, 4, 0)?;
-    expect_judgement::<Set>(&rt, &long_program(rt.alloc(), 8_191, 8_191)?, 9, 1)?;
+    expect_judgement::<Set>(&rt, &words, 4, 0);
+    expect_judgement::<Once>(&rt, &words, 4, 0);
+    expect_judgement::<Set>(&rt, &long_program(rt.alloc(), 8_191, 8_191)?, 9, 1);
     // The last word of 8,192 is a LET.
     let mut words = long_program(rt.alloc(), 2, 8_191)?;
     words.push(0x8000_0000)?;
-    expect_judgement::<Set>(&rt, &words, 8, 8_192)
+    expect_judgement::<Set>(&rt, &words, 8, 8_192);
+    Ok(())
 }
 
 // As many cells and tasks as there may be: a TASK word for each task, and an END at place 513.
@@ -613,7 +619,7 @@ fn counts_are_told(rt: HostRuntime) -> Result<(), Fail> {
     for _ in 0..512 {
         words.push(0xe000_0000 | 513 << 14)?;
     }
-    expect_judgement::<Set>(&rt, &words, 7, 513)?;
+    expect_judgement::<Set>(&rt, &words, 7, 513);
     words.push(END)?;
     let Ok(counts) = rules::check::<Set>(&words) else {
         return Err(Fail::new("refused"));
@@ -622,7 +628,8 @@ fn counts_are_told(rt: HostRuntime) -> Result<(), Fail> {
     // START of the last task.
     words.push(0x7000_01ff)?;
     words.push(END)?;
-    expect_judgement::<Set>(&rt, &words, 0, 0)
+    expect_judgement::<Set>(&rt, &words, 0, 0);
+    Ok(())
 }
 
 type Two = Both<Versions, Versions>;
@@ -633,13 +640,13 @@ type Four = Both<Two, Two>;
 type Full = Both<Four, Four>;
 
 #[test]
-fn wide_lattices_are_refused(rt: HostRuntime) -> Result<(), Fail> {
-    expect_judgement::<Full>(&rt, &[0xf400_0401, TASK, END], 0, 0)?;
-    expect_judgement::<Full>(&rt, &[0xf600_0401, TASK, END], 6, 0)?;
+fn wide_lattices_are_refused(rt: HostRuntime) {
+    expect_judgement::<Full>(&rt, &[0xf400_0401, TASK, END], 0, 0);
+    expect_judgement::<Full>(&rt, &[0xf600_0401, TASK, END], 6, 0);
     // Lift over it has the label 96, and 65 words.
-    expect_judgement::<Lift<Full>>(&rt, &[0xf600_0401, TASK, END], 6, 0)?;
-    expect_judgement::<Lift<Full>>(&rt, &[0xf600_0001, TASK, END], 5, 0)?;
-    expect_judgement::<Lift<Lift<Full>>>(&rt, &[0xf800_0401, TASK, END], 6, 0)?;
-    expect_judgement::<Both<Lift<Full>, Lift<Full>>>(&rt, &[0xf400_0401, TASK, END], 6, 0)?;
-    expect_judgement::<Lift<Set>>(&rt, &[0xf210_0401, TASK, END], 0, 0)
+    expect_judgement::<Lift<Full>>(&rt, &[0xf600_0401, TASK, END], 6, 0);
+    expect_judgement::<Lift<Full>>(&rt, &[0xf600_0001, TASK, END], 5, 0);
+    expect_judgement::<Lift<Lift<Full>>>(&rt, &[0xf800_0401, TASK, END], 6, 0);
+    expect_judgement::<Both<Lift<Full>, Lift<Full>>>(&rt, &[0xf400_0401, TASK, END], 6, 0);
+    expect_judgement::<Lift<Set>>(&rt, &[0xf210_0401, TASK, END], 0, 0);
 }

@@ -7,7 +7,7 @@ use text::read;
 // What each word of a buffer is before a text is read into it.
 const MARK: u32 = 0xdead_beef;
 
-// A buffer of `room` words has the text refused, and is left as it was.
+// A buffer of `room` words has the text refused, and is left as it was. `what` is told where that fails.
 pub(crate) fn expect_refusal(
     rt: &impl Abort,
     heap: Global,
@@ -15,12 +15,17 @@ pub(crate) fn expect_refusal(
     room: usize,
     number: u32,
     line: usize,
+    what: &str,
 ) -> Result<(), Fail> {
     let mut words = vec![in heap; MARK; room]?;
     let Err(refusal) = read(text, &mut words) else {
         return Err(Fail::new("the text was read"));
     };
-    assert_eq!(rt; (refusal.cause.number(), refusal.line), (number, line));
+    assert_eq!(rt;
+        (refusal.cause.number(), refusal.line),
+        (number, line),
+        "{what}"
+    );
     expect_marks(rt, &words);
     Ok(())
 }

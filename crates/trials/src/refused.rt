@@ -307,7 +307,7 @@ fn expect_refusals(
 ) -> Result<(), Fail> {
     for (rest, number, line) in rows {
         let text = format!(in heap; "{before}{rest}")?;
-        expect_refusal(rt, heap, text.as_bytes(), 64, *number, *line).note(*rest)?;
+        expect_refusal(rt, heap, text.as_bytes(), 64, *number, *line, *rest)?;
     }
     Ok(())
 }
@@ -322,7 +322,15 @@ fn damaged_texts_are_refused(rt: HostRuntime) -> Result<(), Fail> {
 #[test]
 fn short_buffers_are_refused(rt: HostRuntime) -> Result<(), Fail> {
     for (text, room, number, line) in &SHORT {
-        expect_refusal(&rt, rt.alloc(), text.as_bytes(), *room, *number, *line).note(*text)?;
+        expect_refusal(
+            &rt,
+            rt.alloc(),
+            text.as_bytes(),
+            *room,
+            *number,
+            *line,
+            *text,
+        )?;
     }
     Ok(())
 }
