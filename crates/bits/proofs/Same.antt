@@ -7,7 +7,7 @@ use lib.Bits.{bit_and}
 use Rattle.std.proofs.lemmas.Nat.{and_mask, one_shl}
 use Rattle.bits.specs.declared.Bits.{Bits}
 use Rattle.bits.proofs.Options.{none_some}
-use Rattle.bits.specs.Fits.{fitted, lowest}
+use Rattle.bits.specs.Fits.{fitted}
 
 pub same_bits : {n : ℕ} (a b : Bits n) → a.value ≡ b.value → a ≡ b
 same_bits {n} a b e = λ i. record { value = e i; fits = is_prop→PathP (λ j. e j < 2 ^ n) (λ j. le_prop {n = suc (e j)} {m = 2 ^ n}) a.fits b.fits i }

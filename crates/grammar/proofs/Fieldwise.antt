@@ -1,5 +1,5 @@
 -- The fields of a line are read exactly where they are printed.
-use Rattle.std.proofs.Common.{◌≡◌, ℕ, ◌+◌, ◌-◌, ◌^◌, ◌<◌, ◌≤◌, Bool, true, false, cond, eqb, ltb, List, ◌∷◌, ◌++◌, length, get_or, drop, Some, None, Option, sym, refl, ap, ◌∙◌, inl, arith, pow_mono}
+use Rattle.std.proofs.Common.{◌≡◌, ℕ, ◌+◌, ◌^◌, ◌<◌, ◌≤◌, Bool, true, false, cond, eqb, ltb, List, ◌∷◌, ◌++◌, length, get_or, drop, Some, None, Option, sym, refl, ap, ◌∙◌, inl, arith, pow_mono}
 use Rattle.std.specs.Option.{option_map}
 use Rattle.std.specs.Str.{bytes_eq}
 use Rattle.std.proofs.lemmas.List.{append_assoc, drop-drop, drop_at, drop_more, length-drop, length-append}
@@ -14,7 +14,7 @@ use Rattle.words.specs.declared.instruction.CodeOperand.{CodeOperand}
 use Rattle.words.specs.declared.instruction.CodeOperand.TheVariants as code
 use Rattle.lexer.specs.Tokens.{Said, word, plain, plus, register, Placed, token_at}
 use Rattle.lexer.specs.Fields.{Field, stands, field_at, spelt, spelt_by, word_field, kept, only, number_in, cell_in, code_in, number_field, cell_field, code_field}
-use Rattle.lines.specs.Forms.{both, beside, then_by, then, named_by, named, before}
+use Rattle.lines.specs.Forms.{both, beside, then_by, then, named_by, named}
 use Rattle.grammar.specs.Printed.{printed_number, printed_cell, printed_code}
 use Rattle.bits.proofs.Options.{some_same, none_some}
 use Rattle.grammar.proofs.Spelling.{Stops, Wordlike, Proper, spelled, byte_first, token_printed, token_read}

@@ -1,5 +1,5 @@
 -- Once keeps the laws.
-use Rattle.std.proofs.Common.{◌≡◌, ℕ, ◌%◌, ◌^◌, ◌<◌, ◌≤◌, Bool, true, false, not, ◌||◌, eqb, sym, refl, ap, arith}
+use Rattle.std.proofs.Common.{◌≡◌, ℕ, ◌%◌, ◌^◌, ◌<◌, ◌≤◌, true, false, not, ◌||◌, eqb, sym, refl, ap, arith}
 use mathlib.Core.Bool.{or-false}
 use Rattle.std.proofs.lemmas.Bool.{ltb-false, eq-eqb, eqb-true, not-false, not_from_true, both_ways}
 use Rattle.std.proofs.lemmas.Bool.Decides.{nat_tests}

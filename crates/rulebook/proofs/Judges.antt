@@ -1,12 +1,10 @@
 -- The judgement keeps its law: it refuses by the first rule of the table that is broken, at the first place.
-use Rattle.std.proofs.Common.{◌≡◌, ℕ, zero, suc, ◌+◌, ◌-◌, ◌<◌, ◌≤◌, Bool, true, false, cond, not, ◌&&◌, ◌||◌, eqb, ltb, leb, ◌⊎◌, List, [], ◌∷◌, ◌++◌, length, get_or, drop, is_some, Some, None, Ok, Err, Option, Result, sym, refl, ap, ◌∙◌, subst, inl, inr, arith}
+use Rattle.std.proofs.Common.{◌≡◌, ℕ, suc, ◌+◌, ◌-◌, ◌<◌, ◌≤◌, false, cond, not, ◌&&◌, eqb, ltb, leb, List, [], ◌∷◌, ◌++◌, length, get_or, drop, is_some, Some, None, Ok, Err, Option, Result, sym, refl, ap, ◌∙◌, subst, inl, inr, arith}
 use Rattle.std.specs.List.{AllByRecursion as All}
 use Rattle.std.proofs.lemmas.List.{at_drop_more, at_drop_all}
 use Rattle.std.proofs.lemmas.Bool.{both_ways, cases_lt, le-ltb, ne_eqb, and_left, and_right, or_from}
 use Rattle.words.specs.Entries.{entry_in}
 use Rattle.words.specs.Instructions.{instruction_in}
-use Rattle.words.specs.declared.entry.Entry.{Entry}
-use Rattle.words.specs.declared.instruction.Instruction.{Instruction}
 use Rattle.lattice.specs.Meaning.{Meaning}
 use Rattle.rulebook.specs.declared.Rule.{Rule}
 use Rattle.rulebook.specs.declared.Rule.TheVariants as rule
@@ -14,7 +12,7 @@ use Rattle.rulebook.specs.declared.Refusal.{Refusal}
 use Rattle.rulebook.specs.declared.Counts.{Counts}
 use Rattle.rulebook.specs.Programs.{counts_of, tasks, in_tasks, in_code, entry_at, code_at}
 use Rattle.rulebook.specs.Rules.{breaks, table, lost_entry, lost_target, unknown_code, ambiguous, ill_formed, is_end}
-use Rattle.rulebook.specs.Judgement.{first_from, first_broken, refused_or, judged_by, judged, Kept, Accepted, Refused, Judgement}
+use Rattle.rulebook.specs.Judgement.{first_broken, refused_or, judged_by, judged, Kept, Accepted, Judgement}
 use Rattle.rulebook.proofs.Firsts.{First, first_some, first_none, first_here, first_nowhere}
 
 -- behind the last word there is no code and no task

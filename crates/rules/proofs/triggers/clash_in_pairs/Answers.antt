@@ -1,4 +1,4 @@
-use Rattle.std.proofs.Common.{◌≡◌, ℕ, ◌+◌, true, false, List, get_or, drop, sym, refl, ap, ◌∙◌}
+use Rattle.std.proofs.Common.{◌≡◌, ◌+◌, true, false, get_or, drop, refl}
 use Rattle.std.proofs.lemmas.List.{take_rest}
 use Rattle.rulebook.specs.Rules.{clashes_with_all, pairs_clash, trigger_value}
 use Rattle.rules.proofs.Passes.{pass_stop, pass_more, pass_all}

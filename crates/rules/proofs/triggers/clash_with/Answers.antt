@@ -1,4 +1,4 @@
-use Rattle.std.proofs.Common.{◌≡◌, true, false, get_or, refl, rules}
+use Rattle.std.proofs.Common.{◌≡◌, true, false, get_or, refl}
 use Rattle.rulebook.specs.Rules.{clashes_with_all, trigger_value}
 use Rattle.rules.proofs.Passes.{pass_stop, pass_more, pass_all}
 use Rattle.rules.proofs.triggers.clash_with.Goals as goal
