@@ -6,7 +6,8 @@ usage: python3 tools/respell.py      at the top of the repository, once, after t
 A name is one that a file of crates/*/specs or crates/*/proofs declares: a definition, a lemma, a field, a constructor, a local
 name, or another name that a `use` gives. Names of types and modules begin in upper case and stay. Functions of src/ keep their
 names, and so do strings and comments. Two names that would fall together, or that would fall on a name of the library, are
-respelled as APART says. In pages the names between backquotes follow.
+respelled as APART says. A word of the library that is used under the name of another one gets its own name back (OWN). In pages the
+names between backquotes follow. A second run changes nothing.
 """
 
 import collections
@@ -19,10 +20,13 @@ APART = {
     "entry-line": "entry_line_read",
     "entry-by": "entry_by_start",
     "goesOn": "is_inner",
-    "bit-or": "bit-bit_or",
+    "bit-or": "bit_bit_or",
     "judgedBy": "line_judged",
     "digitValue": "digit_value_of",
 }
+
+# a word of the library, and the name that it was used under, which is that of another word of the library
+OWN = {"AllByRecursion": "All"}
 
 NAME = r"[^\s(){}\[\].,;:`\"]+"
 TOKEN = re.compile(NAME)
@@ -77,6 +81,14 @@ def declared():
     return {n: respelled(n) for n in found if respelled(n) != n}
 
 
+def own_names(text):
+    for word, other in OWN.items():
+        given = f"{word} as {other}"
+        if given in text:
+            text = TOKEN.sub(lambda m: word if m.group(0) == other else m.group(0), text.replace(given, word))
+    return text
+
+
 def turn(text, names):
     parts = re.split(r'("[^"]*")', text)
     return "".join(p if p.startswith('"') else TOKEN.sub(lambda m: names.get(m.group(0), m.group(0)), p) for p in parts)
@@ -112,9 +124,9 @@ def main():
         fallen[names[n]].add(n)
     changed = 0
     for path in files(".antt"):
-        changed += rewrite(path, lambda t: turn_antt(t, names))
+        changed += rewrite(path, lambda t: own_names(turn_antt(t, names)))
     for path in files(".rt"):
-        changed += rewrite(path, lambda t: turn_rt(t, names))
+        changed += rewrite(path, lambda t: own_names(turn_rt(t, names)))
     for folder in (".", "docs"):
         for name in sorted(os.listdir(folder)):
             if name.endswith(".md"):

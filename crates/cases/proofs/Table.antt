@@ -1,7 +1,7 @@
 -- Every row of the table stands.
 use Rattle.std.proofs.Common.{◌≡◌, Bool, true, false, cond, eqb, Option, refl, ap}
 use native.Mathlib.Decide.{dec_lt}
-use Rattle.std.specs.List.{AllByRecursion as All}
+use Rattle.std.specs.List.{AllByRecursion}
 use Rattle.bits.specs.declared.Bits.{Bits}
 use Rattle.bits.specs.Fits.{lowest}
 use Rattle.bits.proofs.Same.{fitted_value}
@@ -28,7 +28,7 @@ infixr 4 ◌then◌
 ◌then◌ : {A B : Type 0} → A → B → A × B
 a then b = (a, b)
 
-pub table_stands : All Stands table
+pub table_stands : AllByRecursion Stands table
 unfolding packed dec_lt ◌then◌
 table_stands =
     refl

@@ -2,7 +2,7 @@
 #![tactic(auto)]
 
 ghost use Rattle.std.specs.Prelude.{◌≡◌, true, ◌&&◌, ◌==◌};
-ghost use Rattle.std.specs.List.{AllByRecursion as All};
+ghost use Rattle.std.specs.List.{AllByRecursion};
 ghost use Rattle.bits.specs.Fits.{lowest};
 ghost use Rattle.cases.specs.Worked.{Stands, table};
 
@@ -29,7 +29,7 @@ type Full = Both<Four, Four>;
 // Every row of the table stands: a fact of the meanings, which the lattices' own contracts tie to their code.
 // The body puts most rows to the code as well. A body that only said `true` would meet the second clause, so that is for the run.
 pub fn worked_cases() -> bool
-    ensures rows { All Stands table }
+    ensures rows { AllByRecursion Stands table }
     ensures answered { result ≡ true }
 {
     answers()

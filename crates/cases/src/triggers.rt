@@ -1,6 +1,6 @@
 // The worked cases of the rules: programs with one task that waits for one of two codes.
 ghost use Rattle.std.specs.Prelude.{◌≡◌, true};
-ghost use Rattle.std.specs.List.{AllByRecursion as All};
+ghost use Rattle.std.specs.List.{AllByRecursion};
 ghost use Rattle.rulebook.specs.Judgement.{judged};
 ghost use Rattle.cases.specs.Triggers.{Judges, programs};
 ghost use Rattle.cases.specs.Answers.{loaded_with, refused_with};
@@ -13,7 +13,7 @@ use set::Set;
 // Every program is judged as its row says: a fact of the definitions, which the contract of `check` ties to the code.
 // The body puts the rows to the code as well. A body that only said `true` would meet the second clause, so that is for the run.
 pub fn trigger_cases() -> bool
-    ensures rows { All Judges programs }
+    ensures rows { AllByRecursion Judges programs }
     ensures answered { result ≡ true }
 {
     trigger_rows()

@@ -2,7 +2,7 @@
 use Rattle.std.proofs.Common.{◌≡◌, ℕ, ◌+◌, ◌^◌, ◌<◌, ◌≤◌, Bool, true, false, cond, not, ◌||◌, eqb, leb, ◌⊎◌, List, [], ◌∷◌, ◌++◌, length, get_or, take, drop, Some, None, decimal, Option, sym, refl, ap, ◌∙◌, inl, inr, ⊎_elim, arith}
 use Rattle.std.specs.Str.Parse.{AllDigits, digits_value}
 use Rattle.std.specs.Char.{is_ascii_digit}
-use Rattle.std.specs.List.{prefix_len, AllByRecursion as All}
+use Rattle.std.specs.List.{prefix_len, AllByRecursion}
 use Rattle.std.proofs.lemmas.List.Sums.{prefix_len-le-length}
 use Rattle.std.proofs.lemmas.Str.Parse.{digits_value_short}
 use Rattle.std.proofs.lemmas.Fmt.{digits_decimal, digits_value-decimal, decimal_nonempty, first_decimal, length-decimal-le, decimal-digits_value, decimal_digit}
@@ -17,7 +17,7 @@ formed_right : (n z : ℕ) → 1 ≤ n → n ≤ 9 → (n ≡ 1) ⊎ (z ≡ 48 �
 formed_right n z l h (inl e) = grind (arith, nat_tests)
 formed_right n z l h (inr f) = grind (arith, nat_tests)
 
-digits_pass : (ds : List ℕ) → AllDigits 10 ds → All (λ c. is_ascii_digit c ≡ true) ds
+digits_pass : (ds : List ℕ) → AllDigits 10 ds → AllByRecursion (λ c. is_ascii_digit c ≡ true) ds
 digits_pass [] d = tt
 digits_pass (c ∷ ds) d = (digit_is c d.0, digits_pass ds d.1)
 

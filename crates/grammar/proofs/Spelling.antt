@@ -2,7 +2,7 @@
 use Rattle.std.proofs.Common.{◌≡◌, ℕ, ◌+◌, ◌^◌, ◌<◌, ◌≤◌, Bool, true, false, cond, not, ◌&&◌, eqb, ltb, ◌⊎◌, List, [], ◌∷◌, ◌++◌, length, get_or, take, drop, Some, None, decimal, Option, sym, refl, ap, ◌∙◌, subst, inl, inr, add-zero, arith}
 use Rattle.std.specs.Str.Parse.{AllDigits}
 use Rattle.std.specs.Char.{is_ascii_digit, digit_value}
-use Rattle.std.specs.List.{prefix_len, AllByRecursion as All}
+use Rattle.std.specs.List.{prefix_len, AllByRecursion}
 use Rattle.std.proofs.lemmas.List.Sums.{prefix_len-le-length}
 use Rattle.std.proofs.lemmas.List.{take_at, drop-drop, drop_more, take-append-drop, length-take-le, length-drop, get_or_append_left, get_or-drop}
 use Rattle.std.proofs.lemmas.Str.Parse.{digit_from_value}
@@ -18,7 +18,7 @@ abbrev pub passes : (ℕ → Bool) → List ℕ → Bool
 passes p [] = true
 passes p (c ∷ cs) = p c && passes p cs
 
-pub passes_all : (p : ℕ → Bool) (cs : List ℕ) → passes p cs ≡ true → All (λ c. p c ≡ true) cs
+pub passes_all : (p : ℕ → Bool) (cs : List ℕ) → passes p cs ≡ true → AllByRecursion (λ c. p c ≡ true) cs
 passes_all p [] e = tt
 passes_all p (c ∷ cs) e = let parts = and_parts (p c) (passes p cs) e in (parts.0, passes_all p cs parts.1)
 
@@ -32,7 +32,7 @@ stops_digit rest (inr e) = ap is_ascii_digit e
 
 -- no byte is a space or a line's end
 abbrev pub Clean : List ℕ → Type 0
-Clean w = All (λ c. in_field c ≡ true) w
+Clean w = AllByRecursion (λ c. in_field c ≡ true) w
 
 pub clean_digits : (ds : List ℕ) → AllDigits 10 ds → Clean ds
 clean_digits [] d = tt

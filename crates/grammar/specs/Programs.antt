@@ -1,6 +1,6 @@
 -- A program as its text has it: a first line, its task lines and its code lines.
 use Rattle.std.specs.Prelude.{◌≡◌, ℕ, List, ◌∷◌, ◌++◌, map, length}
-use Rattle.std.specs.List.{flat_map, AllByRecursion as All}
+use Rattle.std.specs.List.{flat_map, AllByRecursion}
 use Rattle.words.specs.declared.head.Head.{Head}
 use Rattle.words.specs.declared.entry.Entry.{Entry}
 use Rattle.words.specs.Heads.{head_word}
@@ -16,7 +16,7 @@ pub record Program : Type 0 where
 -- the first line says how many task lines there are
 pub record Whole (p : Program) : Type 0 where
   pub tasks : length p.entries ≡ p.head.tasks.value
-  pub formed : All Formed p.code
+  pub formed : AllByRecursion Formed p.code
 
 abbrev pub printed : Program → List ℕ
 printed p = printed_head p.head ++ (flat_map printed_entry p.entries ++ flat_map printed_statement p.code)

@@ -1,7 +1,7 @@
 -- The least value above some codes, one code after the other. Rests on the laws alone.
 use Rattle.std.proofs.Common.{◌≡◌, ℕ, ◌+◌, ◌<◌, true, false, List, [], length, get_or, take, sym, ◌∙◌, subst, arith}
 use Rattle.std.proofs.lemmas.List.{take-take, get_or-take, length-take-le}
-use Rattle.std.specs.List.{AllByRecursion as All}
+use Rattle.std.specs.List.{AllByRecursion}
 use Rattle.std.proofs.ByRecursion.{All-weaker, All-more, All-take, All-get_or}
 use Rattle.std.proofs.lemmas.Bool.{both_ways}
 use Rattle.bits.specs.declared.Bits.{Bits}
@@ -23,7 +23,7 @@ module _ (M : Meaning) (l : Laws M) where
         record {
           above = All-more (λ d. M.below (M.value d) j ≡ true) cs i c within (All-weaker (λ d. M.below (M.value d) x ≡ true) (λ d. M.below (M.value d) j ≡ true) (λ d p. below_grows M l (M.value d) x (M.value c) p n) (take i cs) least.above) at;
           under = λ u a. let P : Bits 18 → Type 0 = λ d. M.below (M.value d) u ≡ true in
-              let before : Above M (take i cs) u = subst (All P) (take-take i (i + 1) cs (omega arith)) (All-take P i (take (i + 1) cs) a) in
+              let before : Above M (take i cs) u = subst (AllByRecursion P) (take-take i (i + 1) cs (omega arith)) (All-take P i (take (i + 1) cs) a) in
               let here : P (get_or (take (i + 1) cs) i c) = All-get_or P (take (i + 1) cs) i c (omega (arith, length-take-le (i + 1) cs (omega arith))) a in
               let this : P c = subst P (get_or-take (i + 1) cs i c (omega arith) ∙ sym read) here in
               join_least M l x (M.value c) u (least.under u before) this;

@@ -1,7 +1,7 @@
 -- What the laws give of the order of values, and of values taken together.
 use Rattle.std.specs.Prelude.{◌≡◌, true, false, ◌||◌, List, Some, None, Option}
 use Rattle.bits.specs.declared.Bits.{Bits}
-use Rattle.std.specs.List.{AllByRecursion as All}
+use Rattle.std.specs.List.{AllByRecursion}
 use Rattle.lattice.specs.Meaning.{Meaning}
 
 pub record Order (M : Meaning) : Type 0 where
@@ -21,7 +21,7 @@ pub record Order (M : Meaning) : Type 0 where
 
 -- a value that the values of all these codes are below
 abbrev pub Above : (M : Meaning) → List (Bits 18) → M.Value → Type 0
-Above M cs u = All (λ c. M.below (M.value c) u ≡ true) cs
+Above M cs u = AllByRecursion (λ c. M.below (M.value c) u ≡ true) cs
 
 -- the least of these
 pub record Least (M : Meaning) (cs : List (Bits 18)) (a : M.Value) : Type 0 where

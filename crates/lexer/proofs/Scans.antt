@@ -2,7 +2,7 @@
 use Rattle.std.proofs.Common.{◌≡◌, ℕ, zero, suc, ◌-◌, ◌^◌, ◌<◌, ◌≤◌, Bool, true, false, not, eqb, leb, ◌⊎◌, List, [], ◌∷◌, ◌++◌, length, get_or, take, refl, ap, ◌∙◌, inl, inr, one-add, arith}
 use Rattle.std.specs.Str.Parse.{AllDigits, digits_value}
 use Rattle.std.specs.Char.{is_ascii_digit, digit_value as digit_value_of}
-use Rattle.std.specs.List.{prefix_len, AllByRecursion as All}
+use Rattle.std.specs.List.{prefix_len, AllByRecursion}
 use Rattle.std.proofs.lemmas.List.{length-take-le}
 use Rattle.std.proofs.lemmas.Str.Parse.{IsNumeralModel, numerals_by_value, tells_digits, digit_from_value, digit_at, digits_value_short}
 use Rattle.std.proofs.lemmas.Bool.{cond-true, cond-false, and_from, and_parts, leb-true, le-leb, or_from, ne_eqb}
@@ -24,7 +24,7 @@ digit_of c e =
     omega (arith, digit_value_digit c (low, high))
 
 -- so many bytes at the front pass a test, and what stands behind them does not
-pub leading_all : (p : ℕ → Bool) (xs rest : List ℕ) → All (λ c. p c ≡ true) xs → p (get_or rest 0 0) ≡ false → prefix_len p (xs ++ rest) ≡ length xs
+pub leading_all : (p : ℕ → Bool) (xs rest : List ℕ) → AllByRecursion (λ c. p c ≡ true) xs → p (get_or rest 0 0) ≡ false → prefix_len p (xs ++ rest) ≡ length xs
 leading_all p [] [] all stop = refl
 leading_all p [] (c ∷ cs) all stop = cond-false (p c) _ _ stop
 leading_all p (x ∷ xs) rest all stop = cond-true (p x) _ _ all.0 ∙ omega (arith, leading_all p xs rest all.1 stop)

@@ -1,6 +1,6 @@
 -- The judgement keeps its law: it refuses by the first rule of the table that is broken, at the first place.
 use Rattle.std.proofs.Common.{◌≡◌, ℕ, suc, ◌+◌, ◌-◌, ◌<◌, ◌≤◌, false, cond, not, ◌&&◌, eqb, ltb, leb, List, [], ◌∷◌, ◌++◌, length, get_or, drop, is_some, Some, None, Ok, Err, Option, Result, sym, refl, ap, ◌∙◌, subst, inl, inr, arith}
-use Rattle.std.specs.List.{AllByRecursion as All}
+use Rattle.std.specs.List.{AllByRecursion}
 use Rattle.std.proofs.lemmas.List.{at_drop_more, at_drop_all}
 use Rattle.std.proofs.lemmas.Bool.{both_ways, cases_lt, le-ltb, ne_eqb, and_left, and_right, or_from}
 use Rattle.words.specs.Entries.{entry_in}
@@ -69,21 +69,21 @@ module _ (M : Meaning) (ws : List ℕ) where
   err_ok f c e = let z : ◌≡◌ {A = ℕ} 0 1 = cc in absurd (omega arith)
 
   -- rules in turn
-  accepts_by : (ks : List Rule) (c : Counts) → judged_by M ws ks ≡ Ok c → All (Kept M ws) ks × (c ≡ counts_of ws)
+  accepts_by : (ks : List Rule) (c : Counts) → judged_by M ws ks ≡ Ok c → AllByRecursion (Kept M ws) ks × (c ≡ counts_of ws)
   unfolding judged_by
   accepts_by [] c e = (tt, cc)
   accepts_by (k ∷ ks) c e = go (first_broken M ws k) refl e (accepts_by ks c)
     where
-      go : (o : Option ℕ) → first_broken M ws k ≡ o → refused_or M ws k o (judged_by M ws ks) ≡ Ok c → (judged_by M ws ks ≡ Ok c → All (Kept M ws) ks × (c ≡ counts_of ws)) → (Kept M ws k × All (Kept M ws) ks) × (c ≡ counts_of ws)
+      go : (o : Option ℕ) → first_broken M ws k ≡ o → refused_or M ws k o (judged_by M ws ks) ≡ Ok c → (judged_by M ws ks ≡ Ok c → AllByRecursion (Kept M ws) ks × (c ≡ counts_of ws)) → (Kept M ws k × AllByRecursion (Kept M ws) ks) × (c ≡ counts_of ws)
       go None s e next = let h = next e in ((kept k s, h.0), h.1)
       go (Some p) s e next = err_ok _ c e
 
-  accepted_by : (ks : List Rule) → All (Kept M ws) ks → judged_by M ws ks ≡ Ok (counts_of ws)
+  accepted_by : (ks : List Rule) → AllByRecursion (Kept M ws) ks → judged_by M ws ks ≡ Ok (counts_of ws)
   unfolding judged_by
   accepted_by [] a = refl
   accepted_by (k ∷ ks) a = ap (λ o. refused_or M ws k o (judged_by M ws ks)) (unbroken k a.0) ∙ accepted_by ks a.1
 
-  refused_by : (before behind : List Rule) (f : Refusal) → All (Kept M ws) before → First (breaks M f.rule ws) 0 f.place → judged_by M ws (before ++ (f.rule ∷ behind)) ≡ Err f
+  refused_by : (before behind : List Rule) (f : Refusal) → AllByRecursion (Kept M ws) before → First (breaks M f.rule ws) 0 f.place → judged_by M ws (before ++ (f.rule ∷ behind)) ≡ Err f
   unfolding judged_by
   refused_by [] behind f a s = ap (λ o. refused_or M ws f.rule o (judged_by M ws behind)) (finds f.rule f.place s)
   refused_by (k ∷ before) behind f a s = ap (λ o. refused_or M ws k o (judged_by M ws (before ++ (f.rule ∷ behind)))) (unbroken k a.0) ∙ refused_by before behind f a.1 s
@@ -93,7 +93,7 @@ module _ (M : Meaning) (ws : List ℕ) where
     pub before : List Rule
     pub behind : List Rule
     pub stands : ks ≡ before ++ (f.rule ∷ behind)
-    pub others : All (Kept M ws) before
+    pub others : AllByRecursion (Kept M ws) before
     pub here : First (breaks M f.rule ws) 0 f.place
 
   err_same : (k : Rule) (p : ℕ) (f : Refusal) → ◌≡◌ {A = Result Counts Refusal} (Err (record { rule = k; place = p })) (Err f) → record { rule = k; place = p } ≡ f
@@ -111,7 +111,7 @@ module _ (M : Meaning) (ws : List ℕ) where
           record { before = []; behind = ks; stands = ap (λ (g : Refusal). g.rule ∷ ks) same; others = tt; here = subst (λ (g : Refusal). First (breaks M g.rule ws) 0 g.place) same (found k p s) }
 
   -- the table has every rule
-  all_kept : All (Kept M ws) table → Accepted M ws
+  all_kept : AllByRecursion (Kept M ws) table → Accepted M ws
   all_kept a rule.WordCount = a.0
   all_kept a rule.Head = a.1.0
   all_kept a rule.Lattice = a.1.1.0
@@ -121,7 +121,7 @@ module _ (M : Meaning) (ws : List ℕ) where
   all_kept a rule.Codes = a.1.1.1.1.1.1.0
   all_kept a rule.Triggers = a.1.1.1.1.1.1.1.0
 
-  each_kept : (ks : List Rule) → Accepted M ws → All (Kept M ws) ks
+  each_kept : (ks : List Rule) → Accepted M ws → AllByRecursion (Kept M ws) ks
   each_kept [] a = tt
   each_kept (k ∷ ks) a = (a k, each_kept ks a)
 

@@ -1,6 +1,6 @@
 -- The judgement of a program: which rule it breaks first, and where.
 use Rattle.std.specs.Prelude.{◌≡◌, ℕ, zero, suc, ◌<◌, Bool, true, false, cond, List, [], ◌∷◌, ◌++◌, length, Some, None, Ok, Err, Option, Result}
-use Rattle.std.specs.List.{AllByRecursion as All}
+use Rattle.std.specs.List.{AllByRecursion}
 use Rattle.lattice.specs.Meaning.{Meaning}
 use Rattle.rulebook.specs.declared.Rule.{Rule}
 use Rattle.rulebook.specs.declared.Refusal.{Refusal}
@@ -44,7 +44,7 @@ module _ (M : Meaning) (ws : List ℕ) where
     pub before : List Rule
     pub behind : List Rule
     pub stands : table ≡ before ++ (k ∷ behind)
-    pub others : All Kept before
+    pub others : AllByRecursion Kept before
     pub broken : breaks M k ws p ≡ true
     pub first : (q : ℕ) → q < p → breaks M k ws q ≡ false
 

@@ -1,6 +1,6 @@
 -- A text is read exactly when it is a printed program.
 use Rattle.std.proofs.Common.{◌≡◌, ℕ, zero, suc, ◌+◌, ◌-◌, ◌<◌, ◌≤◌, eqb, leb, List, [], ◌∷◌, ◌++◌, map, length, take, drop, Some, None, Ok, Err, Option, Result, sym, refl, ap, ◌∙◌, subst, ⊎_elim, arith}
-use Rattle.std.specs.List.{flat_map, AllByRecursion as All}
+use Rattle.std.specs.List.{flat_map, AllByRecursion}
 use Rattle.std.proofs.lemmas.List.{append_assoc, length-append, length-map, take_at, drop_at}
 use Rattle.std.proofs.lemmas.Bool.{cond-true, cond-false, le-leb, lt-leb, ne_eqb, cases_lt}
 use Rattle.words.specs.declared.entry.Entry.{Entry}
@@ -53,7 +53,7 @@ fits_more ls l s t k room ws more is others = (
     within : length ws ≤ room → outcome (l ∷ ls) s k room ≡ prefixed ws (outcome ls t (k + 1) (room - length ws))
     within enough = ap (outcome_by (outcome ls) k room) is ∙ cond-true (leb (length ws) room) _ _ (le-leb (length ws) room enough)
 
-code_fits : (ss : List Statement) (k room : ℕ) → All Formed ss → Fits (outcome (map printed_statement ss) Code k room) (flat_map statement_words ss) room
+code_fits : (ss : List Statement) (k room : ℕ) → AllByRecursion Formed ss → Fits (outcome (map printed_statement ss) Code k room) (flat_map statement_words ss) room
 code_fits [] k room good = (λ _. refl, λ short. absurd (omega arith))
 code_fits (s ∷ ss) k room good =
     fits_more (map printed_statement ss) (printed_statement s) Code Code k room (statement_words s) (flat_map statement_words ss)
@@ -70,7 +70,7 @@ entry_line_read n e =
     ∙ ap (line_by (λ t. (entry_word t ∷ [], tasks_left (suc n - 1)))) (entry_printed e)
     ∙ ap (λ (j : ℕ). Ok (entry_word e ∷ [], tasks_left j)) less
 
-entries_fit : (es : List Entry) (ss : List Statement) (k room : ℕ) → All Formed ss → Fits (outcome (map printed_entry es ++ map printed_statement ss) (tasks_left (length es)) k room) (map entry_word es ++ flat_map statement_words ss) room
+entries_fit : (es : List Entry) (ss : List Statement) (k room : ℕ) → AllByRecursion Formed ss → Fits (outcome (map printed_entry es ++ map printed_statement ss) (tasks_left (length es)) k room) (map entry_word es ++ flat_map statement_words ss) room
 entries_fit [] ss k room good = code_fits ss k room good
 entries_fit (e ∷ es) ss k room good =
     fits_more (map printed_entry es ++ map printed_statement ss) (printed_entry e) (tasks_left (suc (length es))) (tasks_left (length es)) k room (entry_word e ∷ []) (map entry_word es ++ flat_map statement_words ss)
@@ -104,7 +104,7 @@ abbrev text_of : List (List ℕ) → List ℕ
 text_of = flat_map (λ (l : List ℕ). l)
 
 abbrev CodeRead : List (List ℕ) → ℕ → List ℕ → Type 0
-CodeRead ls room all = (ss : List Statement) × All Formed ss × (text_of ls ≡ flat_map printed_statement ss) × (all ≡ flat_map statement_words ss) × (length all ≤ room)
+CodeRead ls room all = (ss : List Statement) × AllByRecursion Formed ss × (text_of ls ≡ flat_map printed_statement ss) × (all ≡ flat_map statement_words ss) × (length all ≤ room)
 
 pair_left : {X Y : Type 0} {a b : X × Y} → a ≡ b → a.0 ≡ b.0
 pair_left e = ap (λ p. p.0) e
@@ -137,7 +137,7 @@ code_read (l ∷ ls) k room all e =
     statement_of (Some (Some s)) ws e = (s, refl, some_same (some_same e))
 
 abbrev TasksRead : ℕ → List (List ℕ) → ℕ → List ℕ → Type 0
-TasksRead n ls room all = (es : List Entry) × (ss : List Statement) × (length es ≡ n) × All Formed ss × (text_of ls ≡ flat_map printed_entry es ++ flat_map printed_statement ss) × (all ≡ map entry_word es ++ flat_map statement_words ss) × (length all ≤ room)
+TasksRead n ls room all = (es : List Entry) × (ss : List Statement) × (length es ≡ n) × AllByRecursion Formed ss × (text_of ls ≡ flat_map printed_entry es ++ flat_map printed_statement ss) × (all ≡ map entry_word es ++ flat_map statement_words ss) × (length all ≤ room)
 
 tasks_read : (n : ℕ) (ls : List (List ℕ)) (k room : ℕ) (all : List ℕ) → outcome ls (tasks_left n) k room ≡ Ok all → TasksRead n ls room all
 tasks_read zero ls k room all e = let found = code_read ls k room all e in ([], found.0, refl, found.1, found.2, found.3, found.4)
@@ -196,7 +196,7 @@ nil_cons : {X P : Type 0} {x : X} {xs : List X} → ◌≡◌ {A = List X} [] (x
 nil_cons e = let z : ◌≡◌ {A = ℕ} 0 1 = cc in absurd (omega arith)
 
 module _ {X : Type 0} (print : X → List ℕ) (back : List ℕ → Option (Option X)) (Good : X → Type 0) (reads : (x : X) → Good x → back (print x) ≡ Some (Some x)) where
-  pub map_back : (xs ys : List X) → All Good xs → All Good ys → map print xs ≡ map print ys → xs ≡ ys
+  pub map_back : (xs ys : List X) → AllByRecursion Good xs → AllByRecursion Good ys → map print xs ≡ map print ys → xs ≡ ys
   map_back [] [] a b e = refl
   map_back [] (y ∷ ys) a b e = nil_cons e
   map_back (x ∷ xs) [] a b e = nil_cons (sym e)
@@ -205,7 +205,7 @@ module _ {X : Type 0} (print : X → List ℕ) (back : List ℕ → Option (Opti
       let tails : xs ≡ ys = map_back xs ys a.1 b.1 (same_cons e).1 in
       (λ i. heads i ∷ tails i)
 
-all_any : {X : Type 0} (xs : List X) → All (λ (_ : X). Unit {0}) xs
+all_any : {X : Type 0} (xs : List X) → AllByRecursion (λ (_ : X). Unit {0}) xs
 all_any [] = tt
 all_any (x ∷ xs) = (tt, all_any xs)
 

@@ -1,6 +1,6 @@
 -- The lines of a printed program are its lines.
 use Rattle.std.proofs.Common.{◌≡◌, ℕ, ◌≤◌, Bool, true, false, cond, not, eqb, List, [], ◌∷◌, ◌++◌, map, codes, decimal, sym, refl, ap, ◌∙◌, arith}
-use Rattle.std.specs.List.{flat_map, AllByRecursion as All}
+use Rattle.std.specs.List.{flat_map, AllByRecursion}
 use Rattle.std.specs.Str.Parse.{AllDigits}
 use Rattle.std.proofs.ByRecursion.{All-append}
 use Rattle.std.proofs.lemmas.List.{append_assoc, append-nil}
@@ -26,7 +26,7 @@ abbrev is_inner : ℕ → Bool
 is_inner c = not (eqb c 10)
 
 abbrev Unbroken : List ℕ → Type 0
-Unbroken cs = All (λ c. is_inner c ≡ true) cs
+Unbroken cs = AllByRecursion (λ c. is_inner c ≡ true) cs
 
 unbroken_append : (xs ys : List ℕ) → Unbroken xs → Unbroken ys → Unbroken (xs ++ ys)
 unbroken_append xs ys a b = All-append (λ c. is_inner c ≡ true) xs ys a b
