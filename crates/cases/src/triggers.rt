@@ -34,6 +34,7 @@ const EIGHT: u32 = 0x3000_0008;
 
 const END: u32 = 0;
 
+#[tactic(auto, unfolding(rulebook::specs::Programs::head_of, rulebook::specs::Programs::entry_at, rulebook::specs::Programs::code_at, rulebook::specs::Programs::run, rulebook::specs::Rules::some_below, rulebook::specs::Judgement::judged_by, rulebook::specs::Judgement::first_broken, rulebook::specs::Judgement::first_from))]
 fn trigger_rows() -> bool
     ensures { result ≡ true }
 {

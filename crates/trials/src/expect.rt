@@ -18,15 +18,12 @@ pub(crate) fn expect_refusal(
     what: &str,
 ) -> Result<(), Fail> {
     let mut words = vec![in heap; MARK; room]?;
-    let Err(refusal) = read(text, &mut words) else {
-        return Err(Fail::new("the text was read"));
+    let answer = match read(text, &mut words) {
+        Ok(_) => (0, 0),
+        Err(refusal) => (refusal.cause.number(), refusal.line),
     };
-    assert_eq!(rt;
-        (refusal.cause.number(), refusal.line),
-        (number, line),
-        "{what}"
-    );
-    expect_marks(rt, &words);
+    assert_eq!(rt; answer, (number, line), "{what}");
+    expect_marks(rt, &words, what);
     Ok(())
 }
 
@@ -47,12 +44,12 @@ pub(crate) fn expect_words(
     for (at, (word, wanted)) in words.iter().zip(expected).enumerate() {
         assert_eq!(rt; *word, *wanted, "word {at}");
     }
-    expect_marks(rt, &words[count..]);
+    expect_marks(rt, &words[count..], "behind the words");
     Ok(())
 }
 
-fn expect_marks(rt: &impl Abort, words: &[u32]) {
+fn expect_marks(rt: &impl Abort, words: &[u32], what: &str) {
     for word in words {
-        assert_eq!(rt; *word, MARK);
+        assert_eq!(rt; *word, MARK, "{what}");
     }
 }
