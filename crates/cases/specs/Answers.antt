@@ -4,9 +4,9 @@ use Rattle.rulebook.specs.declared.Counts.{Counts}
 use Rattle.rulebook.specs.declared.Refusal.{Refusal}
 use Rattle.rulebook.specs.Refusals.{number}
 
-abbrev pub loaded_with : ℕ → ℕ → Result Counts Refusal → Bool
-loaded_with cells tasks (Ok c) = c.cells == cells && c.tasks == tasks
-loaded_with cells tasks (Err r) = false
+abbrev pub accepted_with : ℕ → ℕ → Result Counts Refusal → Bool
+accepted_with cells tasks (Ok c) = c.cells == cells && c.tasks == tasks
+accepted_with cells tasks (Err r) = false
 
 abbrev pub refused_with : ℕ → ℕ → Result Counts Refusal → Bool
 refused_with n p (Ok c) = false

@@ -3,7 +3,7 @@ ghost use Rattle.std.specs.Prelude.{◌≡◌, true};
 ghost use Rattle.std.specs.List.{AllByRecursion};
 ghost use Rattle.rulebook.specs.Judgement.{judged};
 ghost use Rattle.cases.specs.Triggers.{Judges, programs};
-ghost use Rattle.cases.specs.Answers.{loaded_with, refused_with};
+ghost use Rattle.cases.specs.Answers.{accepted_with, refused_with};
 
 use lattice::Lattice;
 use once::Once;
@@ -38,14 +38,14 @@ const END: u32 = 0;
 fn trigger_rows() -> bool
     ensures { result ≡ true }
 {
-    loads::<Once>(&[ONCE_HEAD, TASK, GET, SEVEN, EIGHT, END], 1, 1)
+    accepts::<Once>(&[ONCE_HEAD, TASK, GET, SEVEN, EIGHT, END], 1, 1)
         && refuses::<Set>(&[SET_HEAD, TASK, GET, SEVEN, EIGHT, END], 11, 2)
         && refuses::<Set>(&[SET_HEAD, TASK, GET, SEVEN, SEVEN, END], 11, 2)
         && refuses::<Once>(&[ONCE_HEAD, TASK, GET, SEVEN, SEVEN, END], 11, 2)
 }
 
-fn loads<L: Lattice + Drop>(words: &[u32], cells: usize, tasks: usize) -> bool
-    ensures { result ≡ loaded_with cells tasks (judged L.meaning words.now) }
+fn accepts<L: Lattice + Drop>(words: &[u32], cells: usize, tasks: usize) -> bool
+    ensures { result ≡ accepted_with cells tasks (judged L.meaning words.now) }
 {
     match check::<L>(words) {
         Ok(counts) => counts.cells == cells && counts.tasks == tasks,
