@@ -3,7 +3,7 @@
 
 ghost use Rattle.std.specs.Prelude.{◌^◌, ◌<◌};
 
-#[derive(Clone, Copy)]
+#[derive(Clone, Copy, Debug, PartialEq, Eq, PartialOrd, Ord)]
 pub struct Bits<const N: u32> {
     value: u32,
     ghost fits: { value < 2 ^ N },
@@ -12,4 +12,5 @@ pub struct Bits<const N: u32> {
 // What names a value of a lattice.
 pub type Code = Bits<18>;
 
+mod conversions;
 mod making;

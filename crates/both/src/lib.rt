@@ -9,7 +9,7 @@ ghost use Rattle.both.specs.Means.{paired_by};
 use bits::{Bits, Code};
 use lattice::{Lattice, add_widths};
 
-#[derive(Drop)]
+#[derive(Drop, Debug, PartialEq, Eq)]
 pub struct Both<K, L>(K, L);
 
 // Whether a code goes to the first lattice.
@@ -58,12 +58,10 @@ impl<K: Lattice + Drop, L: Lattice + Drop> Lattice for Both<K, L> {
     }
 
     fn join(&mut self, other: Both<K, L>) {
-        if self.clashes(&other) {
-            return;
+        if !self.clashes(&other) {
+            self.0.join(other.0);
+            self.1.join(other.1);
         }
-        let Both(first, second) = other;
-        self.0.join(first);
-        self.1.join(second);
     }
 
     fn is_below(&self, other: &Both<K, L>) -> bool {
@@ -71,8 +69,7 @@ impl<K: Lattice + Drop, L: Lattice + Drop> Lattice for Both<K, L> {
     }
 
     fn label() -> u8 {
-        let sum = 5 * K::label() as u32 + 3 * L::label() as u32 + 64;
-        (sum % 256) as u8
+        u8::from(Bits::<8>::low(5 * u32::from(K::label()) + 3 * u32::from(L::label()) + 64))
     }
 
     fn width() -> u8 {
@@ -81,9 +78,8 @@ impl<K: Lattice + Drop, L: Lattice + Drop> Lattice for Both<K, L> {
 
     fn word(&self, i: u8) -> u32 {
         if i >= Self::width() {
-            return 0;
-        }
-        if i < K::width() {
+            0
+        } else if i < K::width() {
             self.0.word(i)
         } else {
             self.1.word(i - K::width())

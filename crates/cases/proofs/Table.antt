@@ -1,5 +1,5 @@
 -- Every row of the table stands.
-use Rattle.std.proofs.Common.{◌≡◌, Bool, true, false, cond, eqb, Option, refl, ap}
+use Rattle.std.proofs.Common.{◌≡◌, Bool, true, false, cond, eqb, Option, refl, ap, rules}
 use native.Mathlib.Decide.{dec_lt}
 use Rattle.std.specs.List.{AllByRecursion}
 use Rattle.bits.specs.declared.Bits.{Bits}
@@ -23,55 +23,6 @@ count_kept = λ i s. at (eqb s.value 3) i
 seven_written : value_of set_once 15 ≡ ((meaning_of set).bottom, written (lowest 16 7))
 seven_written = ap (λ (o : Option (Bits 16)). ((meaning_of set).bottom, slate o)) (fitted_value (lowest 16 7))
 
--- a row, and those behind it
-infixr 4 ◌then◌
-◌then◌ : {A B : Type 0} → A → B → A × B
-a then b = (a, b)
-
 pub table_stands : AllByRecursion Stands table
-unfolding packed dec_lt ◌then◌
-table_stands =
-    refl
-    then refl
-    then refl
-    then refl
-    then refl
-    then refl
-    then refl
-    then refl
-    then refl
-    then refl
-    then refl
-    then refl
-    then (refl, refl)
-    then refl
-    then refl
-    then refl
-    then (refl, refl)
-    then refl
-    then refl
-    then refl
-    then refl
-    then refl
-    then (refl, count_kept)
-    then refl
-    then refl
-    then seven_written
-    then refl
-    then (refl, refl)
-    then (refl, refl)
-    then (refl, refl)
-    then (refl, refl)
-    then (refl, refl)
-    then (refl, refl)
-    then refl
-    then refl
-    then (refl, refl)
-    then (refl, refl)
-    then (refl, refl)
-    then (refl, refl)
-    then (refl, refl)
-    then refl
-    then refl
-    then refl
-    then tt
+unfolding packed dec_lt
+table_stands = search (rules, count_kept, seven_written)

@@ -17,47 +17,34 @@ use versions::Versions;
 
 mod triggers;
 
-pub use triggers::trigger_cases;
+pub use triggers::{END, ONCE_HEAD, SET_HEAD, TASK, trigger_cases};
 
-// Eight times Versions, side by side: 64 words.
 type Two = Both<Versions, Versions>;
 
 type Four = Both<Two, Two>;
 
-type Full = Both<Four, Four>;
+// Eight times Versions, side by side: 64 words, and the label 64.
+pub type Full = Both<Four, Four>;
 
 // Every row of the table stands: a fact of the meanings, which the lattices' own contracts tie to their code.
 // The body puts most rows to the code as well. A body that only said `true` would meet the second clause, so that is for the run.
+#[tactic(auto, using(crate::proofs::Table::table_stands))]
 pub fn worked_cases() -> bool
     ensures rows { AllByRecursion Stands table }
     ensures answered { result ≡ true }
 {
-    answers()
+    set_rows() && peak_rows() && once_rows() && versions_rows() && layer_rows() && wide_rows()
 }
 
-fn answers() -> bool
-    ensures { result ≡ true }
-{
-    set_rows()
-        && set_words()
-        && peak_rows()
-        && once_rows()
-        && versions_rows()
-        && layer_rows()
-        && wide_rows()
-}
-
+#[tactic(auto, unfolding(meanings::specs::Packed::packed))]
 fn set_rows() -> bool
     ensures { result ≡ true }
 {
-    admits::<Set>(255) && !admits::<Set>(256) && has_word::<Set>(40, 8, 0) && tells::<Set>(1, 8)
-}
-
-// Number 40 is bit 8 of word 1.
-fn set_words() -> bool
-    ensures { result ≡ true }
-{
-    has_word::<Set>(40, 1, 256)
+    admits::<Set>(255)
+        && !admits::<Set>(256)
+        && has_word::<Set>(40, 1, 256)
+        && has_word::<Set>(40, 8, 0)
+        && tells::<Set>(1, 8)
 }
 
 fn peak_rows() -> bool

@@ -12,6 +12,5 @@ fn main(rt: HostRuntime) -> io::Result<()> {
     rt.stdin()
         .take(MOST_BYTES as u64 + 1)
         .read_to_end(&mut input)?;
-    let answer = session(heap, input.as_slice())?;
-    rt.print(answer.as_str())
+    rt.print(session(heap, &input)?)
 }

@@ -1,40 +1,73 @@
--- The digits of a number in base 16, and the lines of words, one by one.
-use Rattle.std.proofs.Common.{◌≡◌, ℕ, zero, suc, ◌+◌, ◌-◌, ◌/◌, ◌%◌, ◌<◌, List, [], ◌∷◌, ◌++◌, length, get_or, take, sym, refl, ap, ◌∙◌, arith}
+-- What `{:08x}` prints of a number is its digits in base 16.
+use Rattle.std.proofs.Common.{◌≡◌, ℕ, zero, suc, ◌+◌, ◌-◌, ◌/◌, ◌%◌, ◌^◌, ◌<◌, ◌≤◌, false, List, [], ◌∷◌, ◌++◌, length, sym, refl, ap, ◌∙◌, replicate, arith, append_assoc, append-nil, get_or, take, inl, inr}
 use Rattle.std.specs.List.{flat_map}
 use Rattle.std.specs.Char.{digit_char}
-use Rattle.std.proofs.lemmas.List.{append_assoc, take_more, flat_map_more}
+use Rattle.std.specs.Fmt.{digits_onto, digits, padded_integral, format_spec, char_count}
+use Rattle.std.proofs.Math.Nat.{pow-suc}
+use Rattle.std.proofs.lemmas.Bool.{cases_lt}
 use Rattle.std.proofs.lemmas.Bool.Decides.{nat_tests}
+use Rattle.std.proofs.lemmas.List.{flat_map_more, replicate_more, take_more}
 use Rattle.hub.specs.Session.{hex_digits, word_line}
 
-pub hex_none : (n w : ℕ) → n ≡ 0 → hex_digits n w ≡ []
+zeros : (k : ℕ) → hex_digits k 0 ≡ replicate k 48
 unfolding hex_digits
-hex_none zero w e = refl
-hex_none (suc n) w e = absurd (omega arith)
+zeros zero = refl
+zeros (suc k) = ap (λ l. l ++ (48 ∷ [])) (zeros k) ∙ replicate_more k 48 ∙ ap (λ n. replicate n 48) {x = k + 1} {y = suc k} (omega arith)
 
-hex_more : (n w : ℕ) → 0 < n → hex_digits n w ≡ hex_digits (n - 1) (w / 16) ++ (digit_char (w % 16) ∷ [])
+-- digits in front of others, and zeros in front of those
+abbrev filled : ℕ → List ℕ → List ℕ → List ℕ
+filled k acc text = replicate (k + length acc - length text) 48 ++ text
+
+module _ (j w : ℕ) (acc : List ℕ) where
+  abbrev last : ℕ
+  last = digit_char (w % 16)
+
+  onto_last : w < 16 → digits_onto (suc j) 16 false w acc ≡ last ∷ acc
+  onto_last low = grind (arith, nat_tests)
+
+  onto_more : 16 ≤ w → digits_onto (suc j) 16 false w acc ≡ digits_onto j 16 false (w / 16) (last ∷ acc)
+  onto_more high = grind (arith, nat_tests)
+
+  filled_last : (k : ℕ) → w < 16 → filled (suc k) acc (digits_onto (suc j) 16 false w acc) ≡ hex_digits (suc k) w ++ acc
+  unfolding hex_digits
+  filled_last k low =
+      let none : 0 ≡ w / 16 = omega arith in
+      ap (filled (suc k) acc) (onto_last low)
+      ∙ ap (λ n. replicate n 48 ++ (last ∷ acc)) {x = suc k + length acc - suc (length acc)} {y = k} (omega arith)
+      ∙ ap (λ l. l ++ (last ∷ acc)) (sym (zeros k) ∙ ap (hex_digits k) none)
+      ∙ sym (append_assoc (hex_digits k (w / 16)) (last ∷ []) acc)
+
+filled_hex : (k j w : ℕ) (acc : List ℕ) → k ≤ j → w < 16 ^ suc k → filled (suc k) acc (digits_onto (suc j) 16 false w acc) ≡ hex_digits (suc k) w ++ acc
 unfolding hex_digits
-hex_more zero w some = absurd (omega arith)
-hex_more (suc n) w some = let less : suc n - 1 ≡ n = omega arith in ap (λ (k : ℕ). hex_digits k (w / 16) ++ (digit_char (w % 16) ∷ [])) (sym less)
+filled_hex zero j w acc room small = filled_last j w acc 0 (omega arith)
+filled_hex (suc k) zero w acc room small = absurd (omega arith)
+filled_hex (suc k) (suc j) w acc room small = elim (cases_lt w 16) [
+  | inl low ↦ filled_last (suc j) w acc (suc k) low
+  | inr high ↦
+      let d = digit_char (w % 16) in
+      let text = digits_onto (suc j) 16 false (w / 16) (d ∷ acc) in
+      ap (filled (suc (suc k)) acc) (onto_more (suc j) w acc high)
+      ∙ ap (λ n. replicate (n - length text) 48 ++ text) {x = suc (suc k) + length acc} {y = suc k + suc (length acc)} (omega arith)
+      ∙ filled_hex k j (w / 16) (d ∷ acc) (omega arith) (omega (arith, pow-suc 16 (suc k)))
+      ∙ sym (append_assoc (hex_digits (suc k) (w / 16)) (d ∷ []) acc)
+]
 
-pub digit_ascii : (d : ℕ) → d < 16 → digit_char d < 128
-digit_ascii d small = grind (arith, nat_tests)
+-- eight places, filled up with zeros
+abbrev eight : ℕ → List ℕ
+eight w = padded_integral (format_spec 32 0 4 8 (2 ^ 64 - 1)) false [] (digits 16 false w)
 
--- the digits before the last, and then the last
-pub hex_pushed : (start out new one : List ℕ) (n w d : ℕ) → 0 < n → out ≡ start ++ hex_digits (n - 1) (w / 16) → new ≡ out ++ one → one ≡ d ∷ [] → d ≡ digit_char (w % 16) → new ≡ start ++ hex_digits n w
-hex_pushed start out new one n w d some before push single digit =
-    push
-    ∙ (λ i. before i ++ (single ∙ ap (λ (c : ℕ). c ∷ []) digit) i)
-    ∙ append_assoc start (hex_digits (n - 1) (w / 16)) (digit_char (w % 16) ∷ [])
-    ∙ ap (λ (l : List ℕ). start ++ l) (sym (hex_more n w some))
+hex_word : (w : ℕ) → w < 2 ^ 32 → eight w ≡ hex_digits 8 w
+unfolding padded_integral char_count digits
+hex_word w small =
+    let text = digits 16 false w in
+    ap (λ n. replicate n 48 ++ (text ++ [])) {x = 8 - length text - 0 - 0} {y = 8 + 0 - length text} (omega arith)
+    ∙ ap (λ l. replicate (8 - length text) 48 ++ l) (append-nil text)
+    ∙ filled_hex 7 63 w [] (omega arith) (omega arith)
+    ∙ append-nil (hex_digits 8 w)
 
 -- one line more
-pub lines_more : (i : ℕ) (ws start old mid new : List ℕ) → i < length ws → old ≡ start ++ flat_map word_line (take i ws) → mid ≡ old ++ hex_digits 8 (get_or ws i 0) → new ≡ mid ++ (10 ∷ []) → new ≡ start ++ flat_map word_line (take (i + 1) ws)
-lines_more i ws start old mid new lt was digits feed =
-    let body = flat_map word_line (take i ws) in
-    let line = word_line (get_or ws i 0) in
-    feed
-    ∙ ap (λ (l : List ℕ). l ++ (10 ∷ [])) digits
-    ∙ append_assoc old (hex_digits 8 (get_or ws i 0)) (10 ∷ [])
-    ∙ ap (λ (l : List ℕ). l ++ line) was
-    ∙ append_assoc start body line
-    ∙ ap (λ (l : List ℕ). start ++ l) (flat_map_more word_line [] (take i ws) (get_or ws i 0) ∙ ap (flat_map word_line) (sym (take_more ws i 0 lt)))
+pub lines_more : (i : ℕ) (ws : List ℕ) → i < length ws → get_or ws i 0 < 2 ^ 32 → flat_map word_line (take i ws) ++ (eight (get_or ws i 0) ++ (10 ∷ [])) ≡ flat_map word_line (take (i + 1) ws)
+lines_more i ws lt small =
+    ap (λ l. flat_map word_line (take i ws) ++ (l ++ (10 ∷ []))) (hex_word (get_or ws i 0) small)
+    ∙ flat_map_more word_line [] (take i ws) (get_or ws i 0)
+    ∙ ap (flat_map word_line) (sym (take_more ws i 0 lt))

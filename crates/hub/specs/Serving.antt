@@ -1,5 +1,6 @@
 -- The lattices that a session serves: what each means, how it is called, and which one a program names.
-use Rattle.std.specs.Prelude.{ℕ, cond, List, [], ◌∷◌, Some, None, codes, Option, ◌==◌}
+use Rattle.std.specs.Prelude.{ℕ, List, [], ◌∷◌, Some, None, codes, Option, ◌==◌}
+use Rattle.std.specs.List.{find}
 use Rattle.lattice.specs.Meaning.{Meaning}
 use Rattle.meanings.specs.Sets.{set_meaning}
 use Rattle.meanings.specs.Peaks.{peak_meaning}
@@ -31,12 +32,7 @@ label_of s = (meaning_of s).label.value
 
 -- the lattice that has a label
 abbrev pub served_by : ℕ → Option Served
-served_by n =
-    cond (n == label_of Set) (Some Set)
-    (cond (n == label_of Once) (Some Once)
-    (cond (n == label_of Versions) (Some Versions)
-    (cond (n == label_of LiftPeak) (Some LiftPeak)
-    (cond (n == label_of BothSetOnce) (Some BothSetOnce) None))))
+served_by n = find (λ s. n == label_of s) (Set ∷ Once ∷ Versions ∷ LiftPeak ∷ BothSetOnce ∷ [])
 
 abbrev pub served_for : Option Head → Option Served
 served_for None = None

@@ -3,9 +3,11 @@ use Rattle.std.specs.Prelude.{ℕ, zero, suc, ◌/◌, ◌%◌, cond, List, [], 
 use Rattle.std.specs.List.{flat_map}
 use Rattle.std.specs.Char.{digit_char}
 use Rattle.text.specs.Reading.{read_text}
+use Rattle.hub.specs.declared.listing.Listing.{Listing}
+use Rattle.hub.specs.declared.objection.Objection.{Objection}
 use Rattle.hub.specs.declared.objection.Objection.TheVariants.{Size, Label}
 use Rattle.hub.specs.declared.served.Served.{Served}
-use Rattle.hub.specs.Objections.{objected}
+use Rattle.hub.specs.Objections.{objected, refusal_text}
 use Rattle.hub.specs.Serving.{meaning_of, name_of, served_in}
 
 -- the lowest n digits of a number in base 16, in lower case
@@ -25,9 +27,9 @@ headed name width count = codes "lattice " ++ (name ++ (codes " width " ++ (deci
 abbrev pub listed : Served → List ℕ → List ℕ
 listed l ws = headed (name_of l) (meaning_of l).width (length ws) ++ flat_map word_line ws
 
--- `refused N at P`
+-- the line `refused N at P`
 abbrev pub refusal : ℕ × ℕ → List ℕ
-refusal p = codes "refused " ++ (decimal p.0 ++ (codes " at " ++ (decimal p.1 ++ (10 ∷ []))))
+refusal p = refusal_text p ++ (10 ∷ [])
 
 abbrev pub shown_over : Option Served → List ℕ → List ℕ
 shown_over (Some l) ws = listed l ws
@@ -40,6 +42,11 @@ program_shown ws = shown_over (served_in ws) ws
 abbrev pub shown : Result (List ℕ) (ℕ × ℕ) → List ℕ
 shown (Ok ws) = program_shown ws
 shown (Err p) = refusal p
+
+-- what is printed of a program, or of why there is none
+abbrev pub answered : Result Listing Objection → List ℕ
+answered (Ok l) = listed l.served l.words.now
+answered (Err o) = refusal (objected o)
 
 -- an input of more than 60,000 bytes is refused as a whole; a program has 8,192 words at most
 abbrev pub session_bytes : List ℕ → List ℕ

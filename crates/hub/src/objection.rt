@@ -1,10 +1,12 @@
 // Why a session lists no words.
-ghost use Rattle.std.specs.Prelude.{◌≡◌};
-ghost use Rattle.hub.specs.Objections.{objected};
+ghost use Rattle.std.specs.Prelude.{◌≡◌, Some};
+ghost use Rattle.hub.specs.declared.objection.Objection.TheVariants.{Text};
+ghost use Rattle.hub.specs.Objections.{objected, refusal_text};
 
+use std::fmt;
 use text::Refusal;
 
-#[derive(Clone, Copy)]
+#[derive(Clone, Copy, Debug, PartialEq, Eq)]
 pub(crate) enum Objection {
     // There are more bytes than a session reads.
     Size,
@@ -15,23 +17,31 @@ pub(crate) enum Objection {
 }
 
 impl Objection {
-    pub(crate) fn number(self) -> u32
-        ensures { result ≡ (objected self).0 }
+    // The number that is printed, and the line, or 0 where no line is to blame.
+    fn number_and_line(self) -> (u32, usize)
+        ensures { result ≡ objected self }
     {
         match self {
-            Objection::Size => 1,
-            Objection::Text(refusal) => refusal.cause.number(),
-            Objection::Label => 6,
+            Objection::Size => (1, 0),
+            Objection::Text(refusal) => (refusal.cause.number(), refusal.line),
+            Objection::Label => (6, 0),
         }
     }
+}
 
-    pub(crate) fn place(self) -> usize
-        ensures { result ≡ (objected self).1 }
-    {
-        match self {
-            Objection::Size => 0,
-            Objection::Text(refusal) => refusal.line,
-            Objection::Label => 0,
-        }
+impl From<Refusal> for Objection {
+    ghost from_gives = { λ refusal objection. objection ≡ Text refusal };
+
+    fn from(refusal: Refusal) -> Objection {
+        Objection::Text(refusal)
+    }
+}
+
+impl fmt::Display for Objection {
+    ghost output = { λ objection. Some (refusal_text (objected objection)) };
+
+    fn fmt<W: fmt::Write>(&self, f: &mut fmt::Formatter<W>) -> fmt::Result {
+        let (number, line) = self.number_and_line();
+        write!(f, "refused {number} at {line}")
     }
 }

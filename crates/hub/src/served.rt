@@ -1,6 +1,7 @@
 // The lattices that a session serves.
-ghost use Rattle.std.specs.Prelude.{◌≡◌};
-ghost use Rattle.hub.specs.Serving.{meaning_of, name_of, served_by, served_in};
+ghost use Rattle.std.specs.Prelude.{◌≡◌, ◌==◌};
+ghost use Rattle.std.specs.List.{find};
+ghost use Rattle.hub.specs.Serving.{label_of, meaning_of, name_of, served_in};
 
 use both::Both;
 use lattice::Lattice;
@@ -9,9 +10,9 @@ use once::Once;
 use peak::Peak;
 use set::Set;
 use versions::Versions;
-use words::Head;
+use words::{Head, Word};
 
-#[derive(Clone, Copy)]
+#[derive(Clone, Copy, Debug, PartialEq, Eq)]
 pub(crate) enum Served {
     Set,
     Once,
@@ -20,55 +21,66 @@ pub(crate) enum Served {
     BothSetOnce,
 }
 
+const SERVED: [Served; 5] = [
+    Served::Set,
+    Served::Once,
+    Served::Versions,
+    Served::LiftPeak,
+    Served::BothSetOnce,
+];
+
+// What a session tells of a lattice, and the label that a program names it by.
+#[derive(Clone, Copy, Debug, PartialEq, Eq)]
+pub(crate) struct Description {
+    pub(crate) name: &'static str,
+    pub(crate) width: u8,
+    label: u8,
+}
+
+impl Description {
+    fn of<L: Lattice>(name: &'static str) -> Description
+        ensures called { result.name.now ≡ name.now }
+        ensures wide { result.width ≡ L.meaning.width }
+        ensures labelled { result.label ≡ L.meaning.label.value }
+    {
+        Description {
+            name,
+            width: L::width(),
+            label: L::label(),
+        }
+    }
+}
+
 impl Served {
-    pub(crate) fn name(self) -> &'static str
-        ensures { result.now ≡ name_of self }
+    // Each lattice is a type, so a match is what goes from a value to it.
+    pub(crate) fn description(self) -> Description
+        ensures called { result.name.now ≡ name_of self }
+        ensures wide { result.width ≡ (meaning_of self).width }
+        ensures labelled { result.label ≡ label_of self }
     {
         match self {
-            Served::Set => "set",
-            Served::Once => "once",
-            Served::Versions => "versions",
-            Served::LiftPeak => "lift(peak)",
-            Served::BothSetOnce => "both(set,once)",
+            Served::Set => Description::of::<Set>("set"),
+            Served::Once => Description::of::<Once>("once"),
+            Served::Versions => Description::of::<Versions>("versions"),
+            Served::LiftPeak => Description::of::<Lift<Peak>>("lift(peak)"),
+            Served::BothSetOnce => Description::of::<Both<Set, Once>>("both(set,once)"),
         }
     }
 
-    pub(crate) fn width(self) -> u8
-        ensures { result ≡ (meaning_of self).width }
+    // The lattice that a program's first word names.
+    pub(crate) fn named_in(words: &[u32]) -> Option<Served>
+        ensures { result ≡ served_in words.now }
     {
-        match self {
-            Served::Set => Set::width(),
-            Served::Once => Once::width(),
-            Served::Versions => Versions::width(),
-            Served::LiftPeak => <Lift<Peak>>::width(),
-            Served::BothSetOnce => <Both<Set, Once>>::width(),
-        }
+        let head = Head::decode(*words.first()?)?;
+        labelled(&SERVED, u8::from(head.label))
     }
 }
 
-// The lattice that has a label.
-fn served_by(label: u8) -> Option<Served>
-    ensures { result ≡ served_by label }
+fn labelled(lattices: &[Served], label: u8) -> Option<Served>
+    ensures { result ≡ find (λ s. label == label_of s) lattices.now }
 {
-    if label == Set::label() {
-        Some(Served::Set)
-    } else if label == Once::label() {
-        Some(Served::Once)
-    } else if label == Versions::label() {
-        Some(Served::Versions)
-    } else if label == <Lift<Peak>>::label() {
-        Some(Served::LiftPeak)
-    } else if label == <Both<Set, Once>>::label() {
-        Some(Served::BothSetOnce)
-    } else {
-        None
-    }
-}
-
-// The lattice that a program's first word names.
-pub(crate) fn served_in(words: &[u32]) -> Option<Served>
-    ensures { result ≡ served_in words.now }
-{
-    let head = Head::decode(*words.first()?)?;
-    served_by(head.label.get() as u8)
+    lattices
+        .iter()
+        .copied()
+        .find(|lattice| label == lattice.description().label)
 }

@@ -1,5 +1,5 @@
 -- The least value above some codes, one code after the other. Rests on the laws alone.
-use Rattle.std.proofs.Common.{◌≡◌, ℕ, ◌+◌, ◌<◌, true, false, List, [], length, get_or, take, sym, ◌∙◌, subst, arith}
+use Rattle.std.proofs.Common.{◌≡◌, ℕ, ◌+◌, ◌<◌, true, false, List, length, get_or, take, sym, ◌∙◌, subst, arith}
 use Rattle.std.proofs.lemmas.List.{take-take, get_or-take, length-take-le}
 use Rattle.std.specs.List.{AllByRecursion}
 use Rattle.std.proofs.ByRecursion.{All-weaker, All-more, All-take, All-get_or}
@@ -10,10 +10,6 @@ use Rattle.lattice.specs.Order.{Above, Least}
 use Rattle.lattice.proofs.Order.{below_grows, below_both, join_above, join_least}
 
 module _ (M : Meaning) (l : Laws M) where
-  -- without a code it is bottom
-  pub least_none : Least M [] M.bottom
-  least_none = record { above = tt; under = λ u a. l.is_below M.bottom u (l.clash_bottom u) (l.join_bottom u) }
-
   module _ (cs : List (Bits 18)) (i : ℕ) (c : Bits 18) (within : i < length cs) (read : c ≡ get_or cs i c) (x : M.Value) (least : Least M (take i cs) x) where
     -- a code more
     pub least_more : M.clash x (M.value c) ≡ false → Least M (take (i + 1) cs) (M.join x (M.value c))

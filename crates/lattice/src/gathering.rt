@@ -1,5 +1,5 @@
 // Codes taken together.
-ghost use Rattle.std.specs.Prelude.{◌≡◌, not, if◌then◌else◌};
+ghost use Rattle.std.specs.Prelude.{◌≡◌, true, false, MatchOption};
 ghost use Rattle.lattice.specs.Order.{Gathered, Order};
 
 use crate::Lattice;
@@ -12,22 +12,19 @@ pub fn gather<L: Lattice + Drop>(codes: &[Code]) -> Option<L>
 {
     let mut content = L::bottom();
     for code in codes {
-        if !joined(&mut content, *code) {
-            return None;
-        }
+        content = joined(content, *code)?;
     }
     Some(content)
 }
 
-// Joins the value of a code into a content, unless they clash.
-fn joined<L: Lattice + Drop>(content: &mut L, code: Code) -> bool
-    ensures joins { result ≡ not (L.meaning.clash (L.means content.old) (L.meaning.value code)) }
-    ensures grows { L.means content.new ≡ (if result then L.meaning.join (L.means content.old) (L.meaning.value code) else L.means content.old) }
+// A content with the value of a code joined into it, or none where they clash.
+fn joined<L: Lattice + Drop>(mut content: L, code: Code) -> Option<L>
+    ensures { MatchOption result (L.meaning.clash (L.means content) (L.meaning.value code) ≡ true) (λ joint. (L.meaning.clash (L.means content) (L.meaning.value code) ≡ false) × (L.means joint ≡ L.meaning.join (L.means content) (L.meaning.value code))) }
 {
     let value = L::value(code);
     if content.clashes(&value) {
-        return false;
+        return None;
     }
     content.join(value);
-    true
+    Some(content)
 }

@@ -1,6 +1,5 @@
 -- The fields of a line. A field that is read but too large for its bits has no value.
 use Rattle.std.specs.Prelude.{ℕ, ◌+◌, ◌-◌, Bool, cond, ◌&&◌, List, length, Some, None, Option, ◌==◌, nat_lt, slice_index}
-use Rattle.std.specs.Borrow.{Bor}
 use Rattle.std.specs.Option.{option_map}
 use Rattle.std.specs.Str.{bytes_eq}
 use Rattle.bits.specs.declared.Bits.{Bits}
@@ -22,11 +21,6 @@ ends line at = stands line at 10 && length line - at == 1
 -- the field that follows one space
 abbrev pub field_at : List ℕ → ℕ → Option Placed
 field_at line at = cond (stands line at 32) (token_at line (at + 1)) None
-
--- a word that was answered, with its bytes in place of the reference
-abbrev pub word_told : Option (Bor (List ℕ) × ℕ) → Option (List ℕ × ℕ)
-word_told None = None
-word_told (Some p) = Some (p.0.now, p.1)
 
 -- the word that a line begins with, and the place after it
 abbrev pub word_in : Said → ℕ → Option (List ℕ × ℕ)
@@ -56,9 +50,42 @@ spelt_by name (Some p) = spelt name p.token p.next
 abbrev pub word_field : List ℕ → List ℕ → ℕ → Option ℕ
 word_field name line at = spelt_by name (field_at line at)
 
+-- the place after what was read
+abbrev pub reached : Option (Unit {0}) → ℕ → Option ℕ
+reached None next = None
+reached (Some x) next = Some next
+
 -- a field of some kind: its value, if its bits hold it, and the place after it
 abbrev pub Field : Type 0 → Type 0
 Field X = Option (Option X × ℕ)
+
+-- a field that was answered, with the place after it
+abbrev pub after : {X : Type 0} → Option (Option X) → ℕ → Field X
+after None next = None
+after (Some x) next = Some (x, next)
+
+-- no field
+abbrev pub nothing : List ℕ → ℕ → Field (Unit {0})
+nothing line at = Some (Some tt, at)
+
+-- two values, if both fit
+abbrev pub both : {X Y : Type 0} → Option X → Option Y → Option (X × Y)
+both None y = None
+both (Some x) None = None
+both (Some x) (Some y) = Some (x, y)
+
+-- a value beside the field behind it
+abbrev pub beside : {X Y : Type 0} → Option X → Field Y → Field (X × Y)
+beside x None = None
+beside x (Some q) = Some (both x q.0, q.1)
+
+abbrev pub then_by : {X Y : Type 0} → (List ℕ → ℕ → Field Y) → List ℕ → Field X → Field (X × Y)
+then_by Q line None = None
+then_by Q line (Some p) = beside p.0 (Q line p.1)
+
+-- a field, and the one after it
+abbrev pub then : {X Y : Type 0} → (List ℕ → ℕ → Field X) → (List ℕ → ℕ → Field Y) → List ℕ → ℕ → Field (X × Y)
+then P Q line at = then_by Q line (P line at)
 
 -- what a field says, with the place after it
 abbrev pub kept : {X : Type 0} → ℕ → Option (Option X) → Field X

@@ -39,6 +39,11 @@ placed (Some x) = Some (record { token = said x.token; place = x.place; next = x
 abbrev pub in_field : ℕ → Bool
 in_field c = not (c == 32 || c == 10)
 
+-- a number that goes up to a place
+abbrev pub filling : ℕ → Option (ℕ × ℕ) → Option ℕ
+filling end None = None
+filling end (Some p) = cond (p.1 == end) (Some p.0) None
+
 -- a number that fills its field
 abbrev pub whole : (ℕ → Said) → ℕ → Option (ℕ × ℕ) → Option Said
 whole k end None = None

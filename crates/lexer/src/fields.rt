@@ -1,41 +1,38 @@
-// The fields of a line: each stands behind one space. A field function answers none where the line breaks the grammar.
-ghost use Rattle.std.specs.Prelude.{◌≡◌, ◌+◌, ◌<◌};
+// The fields of a line: each stands behind one space. A field that cannot be read breaks the grammar, and answers none.
+ghost use Rattle.std.specs.Prelude.{◌≡◌, ℕ, ◌+◌, List, IfSome};
 ghost use Rattle.std.specs.Str.{bytes_eq};
-ghost use Rattle.lexer.specs.Fields.{stands, ends, field_at, word_told, first_word, word_field, number_field, cell_field, code_field};
-ghost use Rattle.lexer.specs.Tokens.{placed};
-ghost use Rattle.std.specs.Option.{option_map};
-ghost use Rattle.bits.specs.Fits.{fitted};
-ghost use Rattle.words.specs.declared.instruction.CellOperand.TheVariants as cell;
-ghost use Rattle.words.specs.declared.instruction.CodeOperand.TheVariants as code;
+ghost use Rattle.lexer.specs.Fields.{Field as FieldOf, stands, ends, field_at, first_word, word_field, reached, after, nothing, then, number_field, cell_field, code_field};
+ghost use Rattle.lexer.specs.Reading.{begun};
+ghost use Rattle.lexer.specs.Tokens.{spoken, between};
 
-use crate::{Lexeme, Token, next_token};
+use crate::{Token, next_token};
 use words::{Bits, CellOperand, CodeOperand};
 
 // What a field or a line says, if its numbers fit their bits. It waits until the grammar of the whole line is known.
 pub type Fitting<T> = Option<T>;
 
-// Whether a byte stands at a place.
-pub fn holds(line: &[u8], at: usize, byte: u8) -> bool
-    ensures { result ≡ stands line.now at byte }
-{
-    at < line.len() && line[at] == byte
+// A line, and how far it has been read.
+#[derive(Clone, Copy, Debug, PartialEq, Eq)]
+pub struct Cursor<'a> {
+    line: &'a [u8],
+    at: usize,
 }
 
-// Whether the line ends at a place: its LF stands there, and nothing after it.
-pub fn line_ends(line: &[u8], at: usize) -> bool
-    ensures { result ≡ ends line.now at }
+// The word that a line begins with, and a cursor behind it.
+pub fn first_word<'a>(line: &'a [u8]) -> Option<(&'a [u8], Cursor<'a>)>
+    ensures is { begun result ≡ first_word line.now }
+    ensures line { IfSome result (λ p. p.1.line.now ≡ line.now) }
 {
-    holds(line, at, b'\n') && line.len() - at == 1
-}
-
-// The field that follows one space.
-pub fn field<'a>(line: &'a [u8], at: usize) -> Option<Lexeme<'a>>
-    ensures { placed result ≡ field_at line.now at }
-{
-    if holds(line, at, b' ') {
-        next_token(line, at + 1)
-    } else {
-        None
+    let lexeme = next_token(line, 0)?;
+    match lexeme.token {
+        Token::Word(word) => Some((
+            word,
+            Cursor {
+                line,
+                at: lexeme.next,
+            },
+        )),
+        _ => None,
     }
 }
 
@@ -43,86 +40,112 @@ pub fn field<'a>(line: &'a [u8], at: usize) -> Option<Lexeme<'a>>
 pub fn spells(word: &[u8], name: &[u8]) -> bool
     ensures { result ≡ bytes_eq word.now name.now }
 {
-    equal(word, name)
+    word == name
 }
 
-// The word that a line begins with, and the place after it.
-pub fn first_word<'a>(line: &'a [u8]) -> Option<(&'a [u8], usize)>
-    ensures { word_told result ≡ first_word line.now }
-{
-    let lexeme = next_token(line, 0)?;
-    match lexeme.token {
-        Token::Word(word) => Some((word, lexeme.next)),
-        _ => None,
+impl<'a> Cursor<'a> {
+    // Whether a byte stands here.
+    pub fn is_at(&self, byte: u8) -> bool
+        ensures { result ≡ stands self.now.line.now self.now.at byte }
+    {
+        self.at < self.line.len() && self.line[self.at] == byte
+    }
+
+    // Whether the line ends here: its LF stands here, and nothing after it.
+    pub fn is_done(&self) -> bool
+        ensures { result ≡ ends self.now.line.now self.now.at }
+    {
+        self.is_at(b'\n') && self.line.len() - self.at == 1
+    }
+
+    // The field that follows one space.
+    pub fn token(&mut self) -> Option<Token<'a>>
+        ensures is { between (self.old.at + 1) self.new.at (spoken result) ≡ field_at self.old.line.now self.old.at }
+        ensures line { self.new.line.now ≡ self.old.line.now }
+    {
+        if !self.is_at(b' ') {
+            return None;
+        }
+        let lexeme = next_token(self.line, self.at + 1)?;
+        self.at = lexeme.next;
+        Some(lexeme.token)
+    }
+
+    // A field that is the word `name`.
+    pub fn word(&mut self, name: &[u8]) -> Option<()>
+        ensures is { reached result self.new.at ≡ word_field name.now self.old.line.now self.old.at }
+        ensures line { self.new.line.now ≡ self.old.line.now }
+    {
+        match self.token()? {
+            Token::Word(word) if spells(word, name) => Some(()),
+            _ => None,
+        }
     }
 }
 
-// The place after a field that is the word `name`.
-pub fn word_field(line: &[u8], at: usize, name: &[u8]) -> Option<usize>
-    ensures { result ≡ word_field name.now line.now at }
-{
-    let lexeme = field(line, at)?;
-    match lexeme.token {
-        Token::Word(word) if spells(word, name) => Some(lexeme.next),
-        _ => None,
-    }
+// What can stand in a line, and how it is read.
+pub trait Field: Drop {
+    ghost reads: { List ℕ → ℕ → FieldOf Self };
+
+    fn read(cursor: &mut Cursor<'_>) -> Option<Fitting<Self>>
+        ensures is { after result cursor.new.at ≡ reads cursor.old.line.now cursor.old.at }
+        ensures line { cursor.new.line.now ≡ cursor.old.line.now };
 }
 
 // A number for a field of N bits.
-pub fn number_field<const N: u32>(line: &[u8], at: usize) -> Option<(Fitting<Bits<N>>, usize)>
-    ensures { result ≡ number_field N line.now at }
-{
-    let lexeme = field(line, at)?;
-    match lexeme.token {
-        Token::Number(n) => Some((Bits::new(n), lexeme.next)),
-        _ => None,
+impl<const N: u32> Field for Bits<N> {
+    ghost reads = { number_field N };
+
+    fn read(cursor: &mut Cursor<'_>) -> Option<Fitting<Bits<N>>> {
+        match cursor.token()? {
+            Token::Number(n) => Some(Bits::new(n)),
+            _ => None,
+        }
     }
 }
 
 // A cell: a number, or `+` joined to one.
-pub fn cell_field(line: &[u8], at: usize) -> Option<(Fitting<CellOperand>, usize)>
-    ensures { result ≡ cell_field line.now at }
-{
-    let lexeme = field(line, at)?;
-    match lexeme.token {
-        Token::Number(n) => Some((fixed_cell(n), lexeme.next)),
-        Token::PlusCell(n) => Some((moved_cell(n), lexeme.next)),
-        _ => None,
+impl Field for CellOperand {
+    ghost reads = { cell_field };
+
+    fn read(cursor: &mut Cursor<'_>) -> Option<Fitting<CellOperand>> {
+        match cursor.token()? {
+            Token::Number(n) => Some(Bits::new(n).map(CellOperand::Fixed)),
+            Token::PlusCell(n) => Some(Bits::new(n).map(CellOperand::Moved)),
+            _ => None,
+        }
     }
 }
 
 // A code: a number, or `r` for register R.
-pub fn code_field(line: &[u8], at: usize) -> Option<(Fitting<CodeOperand>, usize)>
-    ensures { result ≡ code_field line.now at }
-{
-    let lexeme = field(line, at)?;
-    match lexeme.token {
-        Token::Number(n) => Some((fixed_code(n), lexeme.next)),
-        Token::Register => Some((Some(CodeOperand::Register), lexeme.next)),
-        _ => None,
+impl Field for CodeOperand {
+    ghost reads = { code_field };
+
+    fn read(cursor: &mut Cursor<'_>) -> Option<Fitting<CodeOperand>> {
+        match cursor.token()? {
+            Token::Number(n) => Some(Bits::new(n).map(CodeOperand::Fixed)),
+            Token::Register => Some(Some(CodeOperand::Register)),
+            _ => None,
+        }
     }
 }
 
-fn fixed_cell(n: u32) -> Fitting<CellOperand>
-    ensures { result ≡ option_map cell.Fixed (fitted 8 n) }
-{
-    Some(CellOperand::Fixed(Bits::new(n)?))
+// A field, and the one after it.
+impl<X: Field, Y: Field> Field for (X, Y) {
+    ghost reads = { then X.reads Y.reads };
+
+    fn read(cursor: &mut Cursor<'_>) -> Option<Fitting<(X, Y)>> {
+        let first = X::read(cursor)?;
+        let second = Y::read(cursor)?;
+        Some(first.zip(second))
+    }
 }
 
-fn moved_cell(n: u32) -> Fitting<CellOperand>
-    ensures { result ≡ option_map cell.Moved (fitted 8 n) }
-{
-    Some(CellOperand::Moved(Bits::new(n)?))
-}
+// No field.
+impl Field for () {
+    ghost reads = { nothing };
 
-fn fixed_code(n: u32) -> Fitting<CodeOperand>
-    ensures { result ≡ option_map code.Fixed (fitted 18 n) }
-{
-    Some(CodeOperand::Fixed(Bits::new(n)?))
-}
-
-fn equal(xs: &[u8], ys: &[u8]) -> bool
-    ensures { result ≡ bytes_eq xs.now ys.now }
-{
-    xs == ys
+    fn read(_cursor: &mut Cursor<'_>) -> Option<Fitting<()>> {
+        Some(Some(()))
+    }
 }

@@ -1,16 +1,17 @@
 // The fields of a text's lines, cut out of the text one by one.
 #![tactic(auto)]
 
-ghost use Rattle.std.specs.Prelude.{◌≡◌, ◌+◌, ◌-◌, ◌<◌, ◌≤◌, length, drop, slice_index};
+ghost use Rattle.std.specs.Prelude.{◌≡◌, ◌+◌, ◌-◌, ◌<◌, ◌≤◌, length, drop, slice_index, IfSome};
 ghost use Rattle.std.specs.Str.Parse.{AllDigits, digits_value};
 ghost use Rattle.lexer.specs.Numbers.{digits_at, number_at};
-ghost use Rattle.lexer.specs.Tokens.{placed, spoken, in_field, said_by, token_at};
+ghost use Rattle.lexer.specs.Tokens.{placed, spoken, in_field, said_by, filling, token_at};
 ghost use Rattle.std.specs.List.{prefix_len};
+ghost use Rattle.std.specs.Char.{is_ascii_digit};
 
 pub mod fields;
 
 // What a field says. A word is a part of the text.
-#[derive(Clone, Copy)]
+#[derive(Clone, Copy, Debug, PartialEq, Eq)]
 pub enum Token<'a> {
     Word(&'a [u8]),
     Number(u32),
@@ -19,30 +20,28 @@ pub enum Token<'a> {
 }
 
 // A token with the place where it begins and the place after it.
-#[derive(Clone, Copy)]
+#[derive(Clone, Copy, Debug, PartialEq, Eq)]
 pub struct Lexeme<'a> {
     pub token: Token<'a>,
     pub place: usize,
     pub next: usize,
 }
 
-// The number that stands at a place, together with the place after it.
+// The number that stands at a place, answered together with the place after it: the form that the project asks for.
 pub fn number(text: &[u8], at: usize) -> Option<(u32, usize)>
     ensures { result ≡ number_at text.now at }
 {
-    let digits = digits_at(text, at);
-    if digits.is_empty() || digits.len() > 9 {
-        return None;
+    match digits_at(text, at) {
+        [] | [b'0', _, ..] => None,
+        digits if digits.len() > 9 => None,
+        digits => Some((digits_value(digits), at + digits.len())),
     }
-    if digits[0] == b'0' && digits.len() > 1 {
-        return None;
-    }
-    Some((digits_value(digits), at + digits.len()))
 }
 
-// The token that begins at a place.
+// The token that begins at a place. It is told with its place and the place after it, so text and place go together in this file.
 pub fn next_token<'a>(text: &'a [u8], at: usize) -> Option<Lexeme<'a>>
-    ensures { placed result ≡ token_at text.now at }
+    ensures is { placed result ≡ token_at text.now at }
+    ensures begins { IfSome result (λ x. x.place ≡ at) }
 {
     let width = field_width(text, at);
     if width == 0 {
@@ -56,21 +55,31 @@ pub fn next_token<'a>(text: &'a [u8], at: usize) -> Option<Lexeme<'a>>
     })
 }
 
+// The text from a place on.
+fn rest<'a>(text: &'a [u8], at: usize) -> &'a [u8]
+    ensures { result.now ≡ drop at text.now }
+{
+    text.get(at..).unwrap_or(&[])
+}
+
 // The digits that stand at a place.
+#[tactic(auto, using(crate::proofs::Scans::digits_leading))]
 fn digits_at<'a>(text: &'a [u8], at: usize) -> &'a [u8]
     ensures is { result.now ≡ digits_at text.now at }
     ensures within { 0 < length result.now → at + length result.now ≤ length text.now }
     ensures all { AllDigits 10 result.now }
 {
-    let mut end = at;
-    while end < text.len() && text[end].is_ascii_digit() {
-        end += 1;
-    }
-    if end == at {
-        &text[0..0]
-    } else {
-        &text[at..end]
-    }
+    let rest = rest(text, at);
+    let count = digit_count(rest);
+    &rest[..count]
+}
+
+// How many digits stand at the front.
+fn digit_count(text: &[u8]) -> usize
+    ensures is { result ≡ prefix_len is_ascii_digit text.now }
+    ensures within { result ≤ length text.now }
+{
+    text.iter().take_while(|byte| byte.is_ascii_digit()).count()
 }
 
 // The number that nine digits or fewer write.
@@ -81,7 +90,7 @@ fn digits_value(digits: &[u8]) -> u32
 {
     let mut value = 0;
     for digit in digits {
-        value = value * 10 + (*digit - b'0') as u32;
+        value = value * 10 + u32::from(*digit - b'0');
     }
     value
 }
@@ -91,11 +100,10 @@ fn field_width(text: &[u8], at: usize) -> usize
     ensures is { result ≡ prefix_len in_field (drop at text.now) }
     ensures within { 0 < result → at + result ≤ length text.now }
 {
-    let mut end = at;
-    while end < text.len() && text[end] != b' ' && text[end] != b'\n' {
-        end += 1;
-    }
-    end - at
+    rest(text, at)
+        .iter()
+        .take_while(|byte| **byte != b' ' && **byte != b'\n')
+        .count()
 }
 
 // What a field of some width says.
@@ -104,16 +112,19 @@ fn token_of<'a>(text: &'a [u8], at: usize, width: usize) -> Option<Token<'a>>
     requires within { at + width ≤ length text.now }
     ensures { spoken result ≡ said_by text.now at width (slice_index text.now at) }
 {
+    let end = at + width;
     match text[at] {
-        b'+' => match number(text, at + 1) {
-            Some((value, next)) if next == at + width => Some(Token::PlusCell(value)),
-            _ => None,
-        },
-        b'0'..=b'9' => match number(text, at) {
-            Some((value, next)) if next == at + width => Some(Token::Number(value)),
-            _ => None,
-        },
+        b'+' => Some(Token::PlusCell(number_up_to(text, at + 1, end)?)),
+        b'0'..=b'9' => Some(Token::Number(number_up_to(text, at, end)?)),
         b'r' if width == 1 => Some(Token::Register),
-        _ => Some(Token::Word(&text[at..at + width])),
+        _ => Some(Token::Word(&text[at..end])),
     }
+}
+
+// The number that goes from one place to another.
+fn number_up_to(text: &[u8], at: usize, end: usize) -> Option<u32>
+    ensures { result ≡ filling end (number_at text.now at) }
+{
+    let (value, next) = number(text, at)?;
+    (next == end).then_some(value)
 }

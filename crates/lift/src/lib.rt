@@ -1,31 +1,16 @@
 // Lift: the values of a lattice, and "nothing yet" below them all.
 #![tactic(auto)]
 
-ghost use Rattle.std.specs.Prelude.{◌≡◌};
-ghost use Rattle.meanings.specs.Lifts.{lift_join, lift_meaning, told};
+ghost use Rattle.meanings.specs.Lifts.{lift_meaning};
 ghost use Rattle.meanings.proofs.LiftLaws.{lift_laws};
 ghost use Rattle.lift.specs.Means.{lifted_by};
 
 use bits::Code;
 use lattice::{Lattice, add_widths};
 
-#[derive(Drop)]
-pub enum Lift<L> {
-    Nothing,
-    Told(L),
-}
-
-impl<L: Lattice + Drop> Lift<L> {
-    // Joins a value of the lattice below.
-    fn tell(&mut self, value: L)
-        ensures { lifted_by L.Lattice.means self.new ≡ lift_join L.Lattice.meaning (lifted_by L.Lattice.means self.old) (told (L.Lattice.means value)) }
-    {
-        if let Lift::Told(content) = self {
-            content.join(value);
-            return;
-        }
-        *self = Lift::Told(value);
-    }
+#[derive(Drop, Debug, PartialEq, Eq)]
+pub struct Lift<L> {
+    told: Option<L>,
 }
 
 impl<L: Lattice + Drop> Lattice for Lift<L> {
@@ -36,7 +21,7 @@ impl<L: Lattice + Drop> Lattice for Lift<L> {
     ghost laws = { lift_laws L.Lattice.meaning L.Lattice.laws };
 
     fn bottom() -> Lift<L> {
-        Self::Nothing
+        Lift { told: None }
     }
 
     fn admits(code: Code) -> bool {
@@ -44,31 +29,31 @@ impl<L: Lattice + Drop> Lattice for Lift<L> {
     }
 
     fn value(code: Code) -> Lift<L> {
-        if L::admits(code) {
-            Lift::Told(L::value(code))
-        } else {
-            Lift::Nothing
+        Lift {
+            told: L::admits(code).then(|| L::value(code)),
         }
     }
 
     fn clashes(&self, other: &Lift<L>) -> bool {
-        match (self, other) {
-            (Lift::Told(a), Lift::Told(b)) => a.clashes(b),
+        match (&self.told, &other.told) {
+            (Some(a), Some(b)) => a.clashes(b),
             _ => false,
         }
     }
 
     fn join(&mut self, other: Lift<L>) {
-        if let Lift::Told(value) = other {
-            self.tell(value);
+        match (&mut self.told, other.told) {
+            (Some(content), Some(value)) => content.join(value),
+            (None, told) => self.told = told,
+            (Some(_), None) => {}
         }
     }
 
     fn is_below(&self, other: &Lift<L>) -> bool {
-        match (self, other) {
-            (Lift::Nothing, _) => true,
-            (Lift::Told(_), Lift::Nothing) => false,
-            (Lift::Told(a), Lift::Told(b)) => a.is_below(b),
+        match (&self.told, &other.told) {
+            (None, _) => true,
+            (Some(_), None) => false,
+            (Some(a), Some(b)) => a.is_below(b),
         }
     }
 
@@ -84,11 +69,10 @@ impl<L: Lattice + Drop> Lattice for Lift<L> {
         if i >= Self::width() {
             return 0;
         }
-        match self {
-            Lift::Nothing if i == 0 => 0,
-            Lift::Told(_) if i == 0 => 1,
-            Lift::Nothing => L::bottom().word(i - 1),
-            Lift::Told(a) => a.word(i - 1),
+        match (&self.told, i.checked_sub(1)) {
+            (told, None) => u32::from(told.is_some()),
+            (Some(content), Some(i)) => content.word(i),
+            (None, Some(i)) => L::bottom().word(i),
         }
     }
 }

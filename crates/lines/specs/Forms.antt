@@ -1,30 +1,11 @@
 -- How the fields of a line follow each other.
-use Rattle.std.specs.Prelude.{◌≡◌, ℕ, zero, suc, ◌≤◌, cond, List, [], ◌∷◌, map, length, take, Some, None, Option, slice_set}
+use Rattle.std.specs.Prelude.{ℕ, zero, suc, cond, List, [], ◌∷◌, ◌++◌, map, Some, None, Option}
 use Rattle.std.specs.Option.{option_map}
 use Rattle.words.specs.declared.instruction.CodeOperand.{CodeOperand}
 use Rattle.words.specs.declared.instruction.Instruction.TheVariants.{Trig}
 use Rattle.words.specs.Instructions.{instruction_word}
+pub use Rattle.lexer.specs.Fields.{both, beside, then_by, then, nothing}
 use Rattle.lexer.specs.Fields.{Field, stands, ends, word_field, code_field}
-use Rattle.lines.specs.declared.Row.{Row}
-
--- two values, if both fit
-abbrev pub both : {X Y : Type 0} → Option X → Option Y → Option (X × Y)
-both None y = None
-both (Some x) None = None
-both (Some x) (Some y) = Some (x, y)
-
--- a value beside the field behind it
-abbrev pub beside : {X Y : Type 0} → Option X → Field Y → Field (X × Y)
-beside x None = None
-beside x (Some q) = Some (both x q.0, q.1)
-
-abbrev pub then_by : {X Y : Type 0} → (List ℕ → ℕ → Field Y) → List ℕ → Field X → Field (X × Y)
-then_by Q line None = None
-then_by Q line (Some p) = beside p.0 (Q line p.1)
-
--- a field, and the one after it
-abbrev pub then : {X Y : Type 0} → (List ℕ → ℕ → Field X) → (List ℕ → ℕ → Field Y) → List ℕ → ℕ → Field (X × Y)
-then P Q line at = then_by Q line (P line at)
 
 abbrev pub named_by : {X : Type 0} → (List ℕ → ℕ → Field X) → List ℕ → Option ℕ → Field X
 named_by P line None = None
@@ -33,10 +14,6 @@ named_by P line (Some next) = P line next
 -- a field behind a word
 abbrev pub named : {X : Type 0} → List ℕ → (List ℕ → ℕ → Field X) → List ℕ → ℕ → Field X
 named name P line at = named_by P line (word_field name line at)
-
--- no field
-abbrev pub nothing : List ℕ → ℕ → Field (Unit {0})
-nothing line at = Some (Some tt, at)
 
 -- fields with which the line ends
 abbrev pub closed : {X : Type 0} → List ℕ → Field X → Option (Option X)
@@ -78,22 +55,8 @@ abbrev pub row_words : Field (List CodeOperand) → Field (List ℕ)
 row_words None = None
 row_words (Some p) = Some (option_map (map trigger) p.0, p.1)
 
--- a row that was read: its words, as many as it counts
-abbrev pub row_told : Option Row → Field (List ℕ)
-row_told None = None
-row_told (Some r) = Some (option_map (take r.count) r.words, r.next)
-
--- eight words, of which at most eight count
-abbrev pub Eight : Option (List ℕ) → Type 0
-Eight None = Unit {0}
-Eight (Some ws) = length ws ≡ 8
-
-abbrev pub AtMostEight : Option Row → Type 0
-AtMostEight None = Unit {0}
-AtMostEight (Some r) = (r.count ≤ 8) × Eight r.words
-
 -- one more word, if there is a code for it
-abbrev pub stored : Option (List ℕ) → ℕ → Option CodeOperand → Option (List ℕ)
-stored None i v = None
-stored (Some ws) i None = None
-stored (Some ws) i (Some v) = Some (slice_set ws i (trigger v))
+abbrev pub stored : Option (List ℕ) → Option CodeOperand → Option (List ℕ)
+stored None v = None
+stored (Some ws) None = None
+stored (Some ws) (Some v) = Some (ws ++ trigger v ∷ [])

@@ -1,5 +1,5 @@
 -- What a line says: nothing where it breaks the grammar, and no value where a number is too large for its field.
-use Rattle.std.specs.Prelude.{ℕ, Bool, true, false, cond, List, [], ◌∷◌, map, length, take, Some, None, codes, Option}
+use Rattle.std.specs.Prelude.{ℕ, Bool, true, false, cond, List, [], ◌∷◌, map, length, Some, None, codes, Option, Ok, Err, Result}
 use Rattle.std.specs.Option.{option_map}
 use Rattle.std.specs.Str.{bytes_eq}
 use Rattle.bits.specs.declared.Bits.{Bits}
@@ -14,11 +14,19 @@ use Rattle.lexer.specs.Fields.{Field, first_word, number_field, cell_field, code
 use Rattle.lines.specs.Forms.{then, named, nothing, lastly, row, trigger}
 use Rattle.lines.specs.declared.Keyword.{Keyword}
 use Rattle.lines.specs.declared.Keyword.TheVariants.{End, Put, Get, Freeze, If, Has, Start, Let, Loop}
+use Rattle.lines.specs.declared.LineError.{LineError}
+use Rattle.lines.specs.declared.LineError.TheVariants.{Grammar, Range}
 use Rattle.lines.specs.declared.wording.LineWords.{LineWords}
 
 -- what the fields behind a line's first word say
 abbrev pub Body : Type 0 → Type 0
 Body X = List ℕ → ℕ → Option (Option X)
+
+-- a line that breaks the grammar, or whose numbers are too large, is refused for it
+abbrev pub judged : {X : Type 0} → Option (Option X) → Result X LineError
+judged None = Err Grammar
+judged (Some None) = Err Range
+judged (Some (Some x)) = Ok x
 
 -- what is made of a value, where there is one
 abbrev pub inside : {X Y : Type 0} → (X → Y) → Option (Option X) → Option (Option Y)
@@ -128,10 +136,8 @@ code_line line = code_from line (first_word line)
 
 -- the words that a line was read to
 abbrev pub told : LineWords → List ℕ
-told w = w.first ∷ take w.count w.triggers
+told w = w.first ∷ w.triggers.items
 
--- the words of a GET and its n triggers
-abbrev pub get_words : Option CellOperand → ℕ → Option (List ℕ) → Option (List ℕ)
-get_words None n ws = None
-get_words (Some c) n None = None
-get_words (Some c) n (Some ws) = Some (instruction_word (instruction.Get c (lowest 4 n)) ∷ ws)
+abbrev pub words_told : Result LineWords LineError → Result (List ℕ) LineError
+words_told (Ok w) = Ok (told w)
+words_told (Err e) = Err e

@@ -8,7 +8,7 @@ ghost use Rattle.once.specs.Means.{written_on};
 use bits::{Bits, Code};
 use lattice::Lattice;
 
-#[derive(Clone, Copy)]
+#[derive(Clone, Copy, Debug, PartialEq, Eq)]
 pub struct Once {
     number: Option<Bits<16>>,
 }
@@ -35,29 +35,18 @@ impl Lattice for Once {
     }
 
     fn clashes(&self, other: &Once) -> bool {
-        let Some(first) = self.number else {
-            return false;
-        };
-        let Some(second) = other.number else {
-            return false;
-        };
-        first.get() != second.get()
-    }
-
-    fn join(&mut self, other: Once) {
-        if self.number.is_none() {
-            *self = other;
+        match (self.number, other.number) {
+            (Some(first), Some(second)) => first != second,
+            _ => false,
         }
     }
 
+    fn join(&mut self, other: Once) {
+        self.number = self.number.or(other.number);
+    }
+
     fn is_below(&self, other: &Once) -> bool {
-        let Some(first) = self.number else {
-            return true;
-        };
-        let Some(second) = other.number else {
-            return false;
-        };
-        first.get() == second.get()
+        self.number.is_none() || self.number == other.number
     }
 
     fn label() -> u8 {
@@ -69,9 +58,9 @@ impl Lattice for Once {
     }
 
     fn word(&self, i: u8) -> u32 {
-        match self.number {
-            Some(_) if i == 0 => 1,
-            Some(number) if i == 1 => number.get(),
+        match (self.number, i) {
+            (Some(_), 0) => 1,
+            (Some(number), 1) => number.get(),
             _ => 0,
         }
     }

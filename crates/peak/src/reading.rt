@@ -36,6 +36,7 @@ impl Lattice for Peak {
         code.get() <= LAST_CODE
     }
 
+    #[tactic(auto, using(meanings::proofs::PeakLaws::same_reading, meanings::proofs::PeakLaws::reading_tenths))]
     fn value(code: Code) -> Peak {
         if Self::admits(code) {
             return Peak {
@@ -49,14 +50,13 @@ impl Lattice for Peak {
         false
     }
 
+    #[tactic(auto, using(meanings::proofs::PeakLaws::same_reading))]
     fn join(&mut self, other: Peak) {
-        if self.tenths < other.tenths {
-            *self = other;
-        }
+        *self = (*self).max(other);
     }
 
     fn is_below(&self, other: &Peak) -> bool {
-        self.tenths <= other.tenths
+        self <= other
     }
 
     fn label() -> u8 {

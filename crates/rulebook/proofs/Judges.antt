@@ -1,5 +1,5 @@
 -- The judgement keeps its law: it refuses by the first rule of the table that is broken, at the first place.
-use Rattle.std.proofs.Common.{◌≡◌, ℕ, suc, ◌+◌, ◌-◌, ◌<◌, ◌≤◌, false, cond, not, ◌&&◌, eqb, ltb, leb, List, [], ◌∷◌, ◌++◌, length, get_or, drop, is_some, Some, None, Ok, Err, Option, Result, sym, refl, ap, ◌∙◌, subst, inl, inr, arith}
+use Rattle.std.proofs.Common.{◌≡◌, ℕ, suc, ◌+◌, ◌-◌, ◌<◌, ◌≤◌, true, false, cond, MatchOption, not, ◌&&◌, eqb, ltb, leb, List, [], ◌∷◌, ◌++◌, length, get_or, drop, is_some, Some, None, Ok, Err, Option, Result, sym, refl, ap, ◌∙◌, subst, inl, inr, arith}
 use Rattle.std.specs.List.{AllByRecursion}
 use Rattle.std.proofs.lemmas.List.{at_drop_more, at_drop_all}
 use Rattle.std.proofs.lemmas.Bool.{both_ways, cases_lt, le-ltb, ne_eqb, and_left, and_right, or_from}
@@ -16,23 +16,23 @@ use Rattle.rulebook.specs.Judgement.{first_broken, refused_or, judged_by, judged
 use Rattle.rulebook.proofs.Firsts.{First, first_some, first_none, first_here, first_nowhere}
 
 -- behind the last word there is no code and no task
-pub no_code : (ws : List ℕ) (p : ℕ) → length ws ≤ p → in_code ws p ≡ false
+no_code : (ws : List ℕ) (p : ℕ) → length ws ≤ p → in_code ws p ≡ false
 no_code ws p l = and_right (ltb (tasks ws) p) (ltb p (length ws)) (le-ltb p (length ws) l)
 
-pub no_task : (ws : List ℕ) (p : ℕ) → length ws ≤ p → in_tasks ws p ≡ false
+no_task : (ws : List ℕ) (p : ℕ) → length ws ≤ p → in_tasks ws p ≡ false
 no_task ws p l = and_right (leb 1 p) (leb p (tasks ws) && ltb p (length ws)) (and_right (leb p (tasks ws)) (ltb p (length ws)) (le-ltb p (length ws) l))
 
-pub code_past : (ws : List ℕ) (p : ℕ) → length ws ≤ p → code_at ws p ≡ None
+code_past : (ws : List ℕ) (p : ℕ) → length ws ≤ p → code_at ws p ≡ None
 unfolding code_at
 code_past ws p l = ap (λ b. cond b (instruction_in (get_or ws p 0)) None) (no_code ws p l)
 
-pub entry_past : (ws : List ℕ) (p : ℕ) → length ws ≤ p → entry_at ws p ≡ None
+entry_past : (ws : List ℕ) (p : ℕ) → length ws ≤ p → entry_at ws p ≡ None
 unfolding entry_at
 entry_past ws p l = ap (λ b. cond b (entry_in (get_or ws p 0)) None) (no_task ws p l)
 
 module _ (M : Meaning) (ws : List ℕ) where
   -- no rule is broken behind the word count
-  pub past : (k : Rule) (p : ℕ) → length ws < p → breaks M k ws p ≡ false
+  past : (k : Rule) (p : ℕ) → length ws < p → breaks M k ws p ≡ false
   past rule.WordCount p l = and_left (eqb p 0) _ (ne_eqb p 0 (λ e. omega arith))
   past rule.Head p l = and_left (eqb p 0) _ (ne_eqb p 0 (λ e. omega arith))
   past rule.Lattice p l = and_left (eqb p 0) _ (ne_eqb p 0 (λ e. omega arith))
@@ -50,7 +50,7 @@ module _ (M : Meaning) (ws : List ℕ) where
     | inr l ↦ past k p (omega arith)
   ]
 
-  pub unbroken : (k : Rule) → Kept M ws k → first_broken M ws k ≡ None
+  unbroken : (k : Rule) → Kept M ws k → first_broken M ws k ≡ None
   unfolding first_broken
   unbroken k f = first_nowhere (breaks M k ws) (suc (length ws)) 0 (λ p l m. f p)
 
@@ -58,12 +58,18 @@ module _ (M : Meaning) (ws : List ℕ) where
   unfolding first_broken
   found k p e = first_some (breaks M k ws) (suc (length ws)) 0 p e
 
-  pub finds : (k : Rule) (p : ℕ) → First (breaks M k ws) 0 p → first_broken M ws k ≡ Some p
+  finds : (k : Rule) (p : ℕ) → First (breaks M k ws) 0 p → first_broken M ws k ≡ Some p
   unfolding first_broken
   finds k p f = elim (cases_lt p (suc (length ws))) [
     | inl l ↦ first_here (breaks M k ws) (suc (length ws)) 0 p (omega arith) f
     | inr l ↦ absurd (both_ways (breaks M k ws p) (past k p (omega arith)) f.passes)
   ]
+
+  -- what a search of the places up to the word count comes to
+  pub searched : (k : Rule) (o : Option ℕ) → MatchOption o ((p : ℕ) → p < length ws + 1 → breaks M k ws p ≡ false) (λ p. (breaks M k ws p ≡ true) × ((q : ℕ) → q < p → breaks M k ws q ≡ false)) → o ≡ first_broken M ws k
+  unfolding first_broken
+  searched k None h = sym (first_nowhere (breaks M k ws) (suc (length ws)) 0 (λ p l m. h p (omega arith)))
+  searched k (Some p) h = sym (finds k p (record { from = omega arith; passes = h.0; earlier = λ r l m. h.1 r m }))
 
   err_ok : {P : Type 0} (f : Refusal) (c : Counts) → ◌≡◌ {A = Result Counts Refusal} (Err f) (Ok c) → P
   err_ok f c e = let z : ◌≡◌ {A = ℕ} 0 1 = cc in absurd (omega arith)
@@ -133,16 +139,12 @@ module _ (M : Meaning) (ws : List ℕ) where
     accepted = λ a. accepted_by table (each_kept table a);
   }
 
-  -- rules in turn, as a loop goes through them: those that are left give the answer
-  module _ (ks : List Rule) (i : ℕ) (d : Rule) where
-    pub rules_stop : (p : ℕ) → i < length ks → judged_by M ws (drop i ks) ≡ judged_by M ws ks → first_broken M ws (get_or ks i d) ≡ Some p → Err (record { rule = get_or ks i d; place = p }) ≡ judged_by M ws ks
+  -- rules in turn, as a loop goes through them
+  module _ (ks : List Rule) (i : ℕ) where
+    pub rules_left : i < length ks → judged_by M ws (drop i ks) ≡ refused_or M ws (get_or ks i rule.WordCount) (first_broken M ws (get_or ks i rule.WordCount)) (judged_by M ws (drop (i + 1) ks))
     unfolding judged_by
-    rules_stop p l inv e = sym (ap (λ o. refused_or M ws (get_or ks i d) o (judged_by M ws (drop (i + 1) ks))) e) ∙ sym (at_drop_more (judged_by M ws) ks i d l) ∙ inv
+    rules_left l = at_drop_more (judged_by M ws) ks i rule.WordCount l
 
-    pub rules_more : i < length ks → judged_by M ws (drop i ks) ≡ judged_by M ws ks → first_broken M ws (get_or ks i d) ≡ None → judged_by M ws (drop (i + 1) ks) ≡ judged_by M ws ks
+    pub rules_end : length ks ≤ i → judged_by M ws (drop i ks) ≡ Ok (counts_of ws)
     unfolding judged_by
-    rules_more l inv e = sym (ap (λ o. refused_or M ws (get_or ks i d) o (judged_by M ws (drop (i + 1) ks))) e) ∙ sym (at_drop_more (judged_by M ws) ks i d l) ∙ inv
-
-    pub rules_all : length ks ≤ i → judged_by M ws (drop i ks) ≡ judged_by M ws ks → Ok (counts_of ws) ≡ judged_by M ws ks
-    unfolding judged_by
-    rules_all l inv = sym (at_drop_all (judged_by M ws) ks i l) ∙ inv
+    rules_end l = at_drop_all (judged_by M ws) ks i l

@@ -1,96 +1,46 @@
 -- Instructions by their cases, and the words that begin a list.
-use Rattle.std.proofs.Common.{◌≡◌, ℕ, zero, suc, ◌+◌, ◌<◌, ◌≤◌, Bool, true, false, cond, ◌⊎◌, List, [], ◌∷◌, length, get_or, is_some, Some, None, Option, refl, ap, ◌∙◌, inl, inr, arith}
-use Rattle.std.specs.List.{prefix_len, list_all}
-use Rattle.std.proofs.lemmas.Bool.{both_ways, and_parts}
+use Rattle.std.proofs.Common.{◌≡◌, ℕ, zero, suc, ◌+◌, ◌-◌, ◌<◌, ◌≤◌, Bool, true, false, cond, ◌&&◌, leb, MatchBool, ◌⊎◌, List, [], ◌∷◌, length, get_or, drop, is_some, Some, Option, sym, refl, ap, ◌∙◌, inl, inr, arith}
+use Rattle.std.specs.List.{prefix_len, list_all, enumerate_from}
+use Rattle.std.proofs.lemmas.Bool.{both_ways, cases_lt, and_parts, le-leb, lt-leb, leb-true, leb-false}
+use Rattle.std.proofs.lemmas.List.{drop-drop}
 use Rattle.bits.proofs.Options.{none_some}
 use Rattle.bits.specs.declared.Bits.{Bits}
 use Rattle.lattice.specs.Meaning.{Meaning}
 use Rattle.words.specs.declared.instruction.CellOperand.{CellOperand}
 use Rattle.words.specs.declared.instruction.CodeOperand.{CodeOperand}
 use Rattle.words.specs.declared.instruction.Instruction.{Instruction}
-use Rattle.words.specs.declared.instruction.Instruction.TheVariants.{End, Put, Get, Trig, Freeze, If, Has, Start, Let, Loop}
-use Rattle.rulebook.specs.Programs.{no_trigger, counted_by}
-use Rattle.rulebook.specs.Rules.{is_end, pairs_clash, clashes_with_all, trigger_value}
+use Rattle.words.specs.declared.instruction.Instruction.TheVariants.{End, Get, Trig}
+use Rattle.rulebook.proofs.Firsts.{some_at, none_at}
+use Rattle.rulebook.specs.Programs.{code_at, no_trigger, counted_by}
+use Rattle.rulebook.specs.Rules.{is_counted, is_end, pairs_clash, clashes_with_all, trigger_value}
 
 -- a count has four bits
 pub counted_few : (o : Option Instruction) → counted_by o ≤ 15
-counted_few None = omega arith
-counted_few (Some End) = omega arith
-counted_few (Some (Put c v)) = omega arith
 counted_few (Some (Get c n)) = omega (arith, n.fits)
-counted_few (Some (Trig v)) = omega arith
-counted_few (Some (Freeze c)) = omega arith
-counted_few (Some (If n q)) = omega arith
-counted_few (Some (Has c v)) = omega arith
-counted_few (Some (Start t)) = omega arith
-counted_few (Some (Let n)) = omega arith
-counted_few (Some (Loop n q)) = omega arith
+counted_few _ = omega arith
 
 -- only a GET counts
 pub counted_get : (o : Option Instruction) → 0 < counted_by o → (c : CellOperand) × (n : Bits 4) × (o ≡ Some (Get c n))
-counted_get None h = absurd (omega arith)
-counted_get (Some End) h = absurd (omega arith)
-counted_get (Some (Put c v)) h = absurd (omega arith)
 counted_get (Some (Get c n)) h = (c, n, refl)
-counted_get (Some (Trig v)) h = absurd (omega arith)
-counted_get (Some (Freeze c)) h = absurd (omega arith)
-counted_get (Some (If n q)) h = absurd (omega arith)
-counted_get (Some (Has c v)) h = absurd (omega arith)
-counted_get (Some (Start t)) h = absurd (omega arith)
-counted_get (Some (Let n)) h = absurd (omega arith)
-counted_get (Some (Loop n q)) h = absurd (omega arith)
+counted_get _ h = absurd (omega arith)
 
 pub end_is : (o : Option Instruction) → is_end o ≡ true → o ≡ Some End
-end_is None e = absurd (both_ways false refl e)
 end_is (Some End) e = refl
-end_is (Some (Put c v)) e = absurd (both_ways false refl e)
-end_is (Some (Get c n)) e = absurd (both_ways false refl e)
-end_is (Some (Trig v)) e = absurd (both_ways false refl e)
-end_is (Some (Freeze c)) e = absurd (both_ways false refl e)
-end_is (Some (If n q)) e = absurd (both_ways false refl e)
-end_is (Some (Has c v)) e = absurd (both_ways false refl e)
-end_is (Some (Start t)) e = absurd (both_ways false refl e)
-end_is (Some (Let n)) e = absurd (both_ways false refl e)
-end_is (Some (Loop n q)) e = absurd (both_ways false refl e)
+end_is _ e = absurd (both_ways false refl e)
 
 -- an instruction is a word of code, and a word of code is an instruction or a TRIG
 pub plain : (o : Option Instruction) (i : Instruction) → no_trigger o ≡ Some i → o ≡ Some i
-plain None i e = none_some e
-plain (Some End) i e = e
-plain (Some (Put c v)) i e = e
-plain (Some (Get c n)) i e = e
 plain (Some (Trig v)) i e = none_some e
-plain (Some (Freeze c)) i e = e
-plain (Some (If n q)) i e = e
-plain (Some (Has c v)) i e = e
-plain (Some (Start t)) i e = e
-plain (Some (Let n)) i e = e
-plain (Some (Loop n q)) i e = e
+plain o i e = e
 
 pub plain_or : (i : Instruction) → (is_some (no_trigger (Some i)) ≡ true) ⊎ ((v : CodeOperand) × (i ≡ Trig v))
-plain_or End = inl refl
-plain_or (Put c v) = inl refl
-plain_or (Get c n) = inl refl
 plain_or (Trig v) = inr (v, refl)
-plain_or (Freeze c) = inl refl
-plain_or (If n q) = inl refl
-plain_or (Has c v) = inl refl
-plain_or (Start t) = inl refl
-plain_or (Let n) = inl refl
-plain_or (Loop n q) = inl refl
+plain_or _ = inl refl
 
 -- an instruction that is a GET, or counts nothing
 pub counts_or : (i : Instruction) → ((c : CellOperand) × (n : Bits 4) × (i ≡ Get c n)) ⊎ (counted_by (Some i) ≡ 0)
-counts_or End = inr refl
-counts_or (Put c v) = inr refl
 counts_or (Get c n) = inl (c, n, refl)
-counts_or (Trig v) = inr refl
-counts_or (Freeze c) = inr refl
-counts_or (If n q) = inr refl
-counts_or (Has c v) = inr refl
-counts_or (Start t) = inr refl
-counts_or (Let n) = inr refl
-counts_or (Loop n q) = inr refl
+counts_or _ = inr refl
 
 module _ {X : Type 0} (p : X → Bool) where
   -- those that begin a list pass the test, and the one behind them does not
@@ -126,3 +76,19 @@ module _ (M : Meaning) where
   pairs_at (w ∷ ws) zero (suc k) h l e = passes_at (λ u. M.clash (trigger_value M w) (trigger_value M u)) ws k 0 (omega arith) (and_parts (clashes_with_all M (trigger_value M w) ws) (pairs_clash M ws) e).0
   pairs_at (w ∷ ws) (suc j) zero h l e = absurd (omega arith)
   pairs_at (w ∷ ws) (suc j) (suc k) h l e = pairs_at ws j k (omega arith) (omega arith) (and_parts (clashes_with_all M (trigger_value M w) ws) (pairs_clash M ws) e).1
+
+  -- a row gone through with its index, each trigger beside those behind it
+  pub pairs_in : (row ws : List ℕ) (i : ℕ) → drop i row ≡ ws → list_all (λ p. clashes_with_all M (trigger_value M p.1) (drop (p.0 + 1) row)) (enumerate_from i ws) ≡ pairs_clash M ws
+  pairs_in row [] i e = refl
+  pairs_in row (w ∷ ws) i e =
+      let next : drop (i + 1) row ≡ ws = sym (drop-drop 1 i row) ∙ ap (drop 1) e in
+      ap (λ us. clashes_with_all M (trigger_value M w) us && list_all (λ p. clashes_with_all M (trigger_value M p.1) (drop (p.0 + 1) row)) (enumerate_from (i + 1) ws)) next ∙ ap (λ b. clashes_with_all M (trigger_value M w) ws && b) (pairs_in row ws (i + 1) next)
+
+-- whether some GET counts a word, from those that stand near enough
+module _ (ws : List ℕ) (p a : ℕ) (near : a ≤ p - 15) where
+  pub within : (b : Bool) → MatchBool b ((q : ℕ) × (q < p) × (leb (p - q) (counted_by (code_at ws q)) ≡ true)) ((q : ℕ) → a ≤ q → q < p → leb (p - q) (counted_by (code_at ws q)) ≡ false) → b ≡ is_counted ws p
+  within true h = sym (some_at (λ q. leb p (q + counted_by (code_at ws q))) p h.0 h.1 (le-leb p (h.0 + counted_by (code_at ws h.0)) (omega (arith, h.1, leb-true (p - h.0) (counted_by (code_at ws h.0)) h.2))))
+  within false h = sym (none_at (λ q. leb p (q + counted_by (code_at ws q))) p (λ q l. lt-leb p (q + counted_by (code_at ws q)) (elim (cases_lt (q + 15) p) [
+    | inl far ↦ omega (arith, counted_few (code_at ws q))
+    | inr few ↦ omega (arith, leb-false (p - q) (counted_by (code_at ws q)) (h q (omega arith) l))
+  ])))

@@ -8,7 +8,7 @@ use Rattle.words.specs.Instructions.{instruction_in}
 use Rattle.words.specs.declared.head.Head.{Head}
 use Rattle.words.specs.declared.entry.Entry.{Entry}
 use Rattle.words.specs.declared.instruction.Instruction.{Instruction}
-use Rattle.words.specs.declared.instruction.Instruction.TheVariants.{End, Put, Get, Trig, Freeze, If, Has, Start, Let, Loop}
+use Rattle.words.specs.declared.instruction.Instruction.TheVariants.{Get, Trig}
 use Rattle.rulebook.specs.declared.Counts.{Counts}
 
 -- what the first word says, if it is a HEAD
@@ -46,17 +46,8 @@ unfoldable pub code_at : List ℕ → ℕ → Option Instruction
 code_at ws p = cond (in_code ws p) (instruction_in (slice_index ws p)) None
 
 abbrev pub no_trigger : Option Instruction → Option Instruction
-no_trigger None = None
-no_trigger (Some End) = Some End
-no_trigger (Some (Put c v)) = Some (Put c v)
-no_trigger (Some (Get c n)) = Some (Get c n)
 no_trigger (Some (Trig v)) = None
-no_trigger (Some (Freeze c)) = Some (Freeze c)
-no_trigger (Some (If n q)) = Some (If n q)
-no_trigger (Some (Has c v)) = Some (Has c v)
-no_trigger (Some (Start t)) = Some (Start t)
-no_trigger (Some (Let n)) = Some (Let n)
-no_trigger (Some (Loop n q)) = Some (Loop n q)
+no_trigger o = o
 
 -- an instruction is a word of code that is no TRIG
 abbrev pub instruction_at : List ℕ → ℕ → Option Instruction
@@ -79,14 +70,5 @@ row_behind ws p = take (run (drop (p + 1) ws)) (drop (p + 1) ws)
 
 -- how many words behind it an instruction counts as its triggers
 abbrev pub counted_by : Option Instruction → ℕ
-counted_by None = 0
-counted_by (Some End) = 0
-counted_by (Some (Put c v)) = 0
 counted_by (Some (Get c n)) = n.value
-counted_by (Some (Trig v)) = 0
-counted_by (Some (Freeze c)) = 0
-counted_by (Some (If n q)) = 0
-counted_by (Some (Has c v)) = 0
-counted_by (Some (Start t)) = 0
-counted_by (Some (Let n)) = 0
-counted_by (Some (Loop n q)) = 0
+counted_by _ = 0

@@ -11,7 +11,7 @@ use Rattle.words.specs.declared.instruction.CellOperand.TheVariants as cell
 use Rattle.words.specs.declared.instruction.CodeOperand.{CodeOperand}
 use Rattle.words.specs.declared.instruction.CodeOperand.TheVariants as code
 use Rattle.words.specs.declared.instruction.Instruction.{Instruction}
-use Rattle.words.specs.declared.instruction.Instruction.TheVariants.{End, Put, Get, Trig, Freeze, If, Has, Start, Let, Loop}
+use Rattle.words.specs.declared.instruction.Instruction.TheVariants.{End, Put, Get, Trig, Freeze, If, Has, Start, Loop}
 use Rattle.rulebook.specs.declared.Rule.{Rule}
 use Rattle.rulebook.specs.declared.Rule.TheVariants as rule
 use Rattle.rulebook.specs.Programs.{head_of, cells, tasks, in_tasks, in_code, entry_at, code_at, is_instruction, row_behind, counted_by}
@@ -52,29 +52,13 @@ good_row n row = between 1 n 8 && (length row == n && (n == 1 || none_from_regis
 -- a word of code that breaks its form
 abbrev pub ill_formed : List ℕ → ℕ → Option Instruction → Bool
 ill_formed ws p None = true
-ill_formed ws p (Some End) = false
-ill_formed ws p (Some (Put c v)) = false
 ill_formed ws p (Some (Get c n)) = not (good_row n.value (row_behind ws p))
 ill_formed ws p (Some (Trig v)) = not (is_counted ws p)
-ill_formed ws p (Some (Freeze c)) = false
-ill_formed ws p (Some (If n q)) = false
-ill_formed ws p (Some (Has c v)) = false
-ill_formed ws p (Some (Start t)) = false
-ill_formed ws p (Some (Let n)) = false
-ill_formed ws p (Some (Loop n q)) = false
+ill_formed ws p _ = false
 
 abbrev pub is_end : Option Instruction → Bool
-is_end None = false
 is_end (Some End) = true
-is_end (Some (Put c v)) = false
-is_end (Some (Get c n)) = false
-is_end (Some (Trig v)) = false
-is_end (Some (Freeze c)) = false
-is_end (Some (If n q)) = false
-is_end (Some (Has c v)) = false
-is_end (Some (Start t)) = false
-is_end (Some (Let n)) = false
-is_end (Some (Loop n q)) = false
+is_end _ = false
 
 -- a task that begins at no instruction
 abbrev pub lost_entry : List ℕ → Option Entry → Bool
@@ -88,17 +72,14 @@ lost_cell ws (cell.Moved c) = false
 
 -- a place, a task or a cell that an instruction names and that is not there
 abbrev pub lost_target : List ℕ → Option Instruction → Bool
-lost_target ws None = false
-lost_target ws (Some End) = false
 lost_target ws (Some (Put c v)) = lost_cell ws c
 lost_target ws (Some (Get c n)) = lost_cell ws c
-lost_target ws (Some (Trig v)) = false
 lost_target ws (Some (Freeze c)) = lost_cell ws c
 lost_target ws (Some (If n q)) = not (is_instruction ws q.value)
 lost_target ws (Some (Has c v)) = lost_cell ws c
 lost_target ws (Some (Start t)) = nat_le (tasks ws) t.value
-lost_target ws (Some (Let n)) = false
 lost_target ws (Some (Loop n q)) = not (is_instruction ws q.value)
+lost_target ws _ = false
 
 -- no TASK word where one is due, or no word behind them all
 abbrev pub lacks_task : List ℕ → ℕ → Bool
@@ -123,17 +104,10 @@ module _ (M : Meaning) where
   unknown code.Register = false
 
   abbrev pub unknown_code : Option Instruction → Bool
-  unknown_code None = false
-  unknown_code (Some End) = false
   unknown_code (Some (Put c v)) = unknown v
-  unknown_code (Some (Get c n)) = false
   unknown_code (Some (Trig v)) = unknown v
-  unknown_code (Some (Freeze c)) = false
-  unknown_code (Some (If n q)) = false
   unknown_code (Some (Has c v)) = unknown v
-  unknown_code (Some (Start t)) = false
-  unknown_code (Some (Let n)) = false
-  unknown_code (Some (Loop n q)) = false
+  unknown_code _ = false
 
   -- the value of a trigger that is written out
   abbrev pub trigger_value : ℕ → M.Value
@@ -149,17 +123,8 @@ module _ (M : Meaning) where
 
   -- a GET with two triggers that do not clash
   abbrev pub ambiguous : List ℕ → ℕ → Option Instruction → Bool
-  ambiguous ws p None = false
-  ambiguous ws p (Some End) = false
-  ambiguous ws p (Some (Put c v)) = false
   ambiguous ws p (Some (Get c n)) = not (pairs_clash (row_behind ws p))
-  ambiguous ws p (Some (Trig v)) = false
-  ambiguous ws p (Some (Freeze c)) = false
-  ambiguous ws p (Some (If n q)) = false
-  ambiguous ws p (Some (Has c v)) = false
-  ambiguous ws p (Some (Start t)) = false
-  ambiguous ws p (Some (Let n)) = false
-  ambiguous ws p (Some (Loop n q)) = false
+  ambiguous ws p _ = false
 
   -- whether a program breaks a rule at a place; what is missing at its end is missed at the word count
   abbrev pub breaks : Rule → List ℕ → ℕ → Bool

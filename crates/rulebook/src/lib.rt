@@ -4,11 +4,14 @@
 ghost use Rattle.std.specs.Prelude.{◌≡◌};
 ghost use Rattle.rulebook.specs.Refusals.{number as number_of};
 
-// A rule that a program can break.
-#[derive(Clone, Copy)]
+// The most words that a program has.
+pub const MOST_WORDS: usize = 8_192;
+
+// A rule that a program can break. They are numbered in their order, from 4 on.
+#[derive(Clone, Copy, Debug, PartialEq, Eq, Hash)]
 pub enum Rule {
     // A program has 1 to 8,192 words.
-    WordCount,
+    WordCount = 4,
     // Word 0 is a HEAD with 1 to 256 cells and 1 to 512 tasks.
     Head,
     // The label is the lattice's, and its values have at most 64 words.
@@ -26,14 +29,14 @@ pub enum Rule {
 }
 
 // The first rule that a program breaks, and the first place where it does.
-#[derive(Clone, Copy)]
+#[derive(Clone, Copy, Debug, PartialEq, Eq, Hash)]
 pub struct Refusal {
     pub rule: Rule,
     pub place: usize,
 }
 
 // How many cells and tasks a program has.
-#[derive(Clone, Copy)]
+#[derive(Clone, Copy, Debug, PartialEq, Eq, Hash)]
 pub struct Counts {
     pub cells: usize,
     pub tasks: usize,
@@ -43,15 +46,6 @@ impl Rule {
     pub fn number(self) -> u32
         ensures { result ≡ number_of self }
     {
-        match self {
-            Rule::WordCount => 4,
-            Rule::Head => 5,
-            Rule::Lattice => 6,
-            Rule::Tasks => 7,
-            Rule::Form => 8,
-            Rule::Targets => 9,
-            Rule::Codes => 10,
-            Rule::Triggers => 11,
-        }
+        self as u32
     }
 }

@@ -5,8 +5,7 @@ ghost use Rattle.std.specs.Prelude.{◌≡◌, OnOk};
 ghost use Rattle.rulebook.specs.Sound.{Sound};
 ghost use Rattle.rulebook.specs.Judgement.{first_broken, judged, judged_by, Judgement};
 
-use crate::breach::breaks_at;
-use crate::program::counts;
+use crate::program::Program;
 use lattice::Lattice;
 
 mod breach;
@@ -28,40 +27,33 @@ const TABLE: [Rule; 8] = [
 ];
 
 // How many cells and tasks a program has, or the first rule that it breaks and the first place where it does.
+#[tactic(auto, using(rulebook::proofs::Judges::judgement, rulebook::proofs::Facts::sound_made))]
 pub fn check<L: Lattice + Drop>(words: &[u32]) -> Result<Counts, Refusal>
     ensures is { result ≡ judged L.meaning words.now }
     ensures law { Judgement L.meaning words.now result }
     ensures sound { OnOk result (Sound L.meaning words.now) }
 {
-    judge::<L>(words)
+    Program::new(words).judge_by::<L>(&TABLE)
 }
 
-fn judge<L: Lattice + Drop>(words: &[u32]) -> Result<Counts, Refusal>
-    ensures { result ≡ judged L.meaning words.now }
-{
-    judge_by::<L>(words, &TABLE)
-}
-
-// What some rules, in turn, make of a program.
-fn judge_by<L: Lattice + Drop>(words: &[u32], rules: &[Rule]) -> Result<Counts, Refusal>
-    ensures { result ≡ judged_by L.meaning words.now rules.now }
-{
-    for rule in rules {
-        if let Some(place) = first_broken::<L>(words, *rule) {
-            return Err(Refusal { rule: *rule, place });
+impl Program<'_> {
+    // What some rules, in turn, make of it.
+    #[tactic(auto, using(rulebook::proofs::Judges::rules_left, rulebook::proofs::Judges::rules_end))]
+    fn judge_by<L: Lattice + Drop>(&self, rules: &[Rule]) -> Result<Counts, Refusal>
+        ensures { result ≡ judged_by L.meaning self.now.words.now rules.now }
+    {
+        for rule in rules {
+            if let Some(place) = self.first_broken::<L>(*rule) {
+                return Err(Refusal { rule: *rule, place });
+            }
         }
+        Ok(self.counts)
     }
-    Ok(counts(words))
-}
 
-// The first place where a program breaks a rule. What is missing at its end is missed at the word count.
-fn first_broken<L: Lattice + Drop>(words: &[u32], rule: Rule) -> Option<usize>
-    ensures { result ≡ first_broken L.meaning words.now rule }
-{
-    for place in 0..=words.len() {
-        if breaks_at::<L>(words, rule, place) {
-            return Some(place);
-        }
+    // The first place where it breaks a rule. What is missing at its end is missed at the word count.
+    fn first_broken<L: Lattice + Drop>(&self, rule: Rule) -> Option<usize>
+        ensures { result ≡ first_broken L.meaning self.now.words.now rule }
+    {
+        (0..=self.words.len()).find(|place| self.breaks::<L>(rule, *place))
     }
-    None
 }

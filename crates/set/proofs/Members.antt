@@ -1,8 +1,9 @@
 -- Eight words as a set of numbers.
-use Rattle.std.proofs.Common.{◌≡◌, ℕ, ◌+◌, ◌*◌, ◌/◌, ◌%◌, ◌^◌, ◌<◌, ◌≤◌, Bool, true, false, cond, not, ◌||◌, eqb, ltb, List, get_or, set, replicate, sym, ap, ◌∙◌, subst, ⊎_elim, mod-eq_of_lt, arith, get_or-set_other, get_or-set_same}
+use Rattle.std.proofs.Common.{◌≡◌, ℕ, ◌+◌, ◌*◌, ◌/◌, ◌%◌, ◌^◌, ◌<◌, ◌≤◌, Bool, true, not, ◌||◌, eqb, ltb, List, length, get_or, set, replicate, sym, ap, ◌∙◌, ⊎_elim, mod-eq_of_lt, arith, get_or-set_other, get_or-set_same}
+use Rattle.std.proofs.lemmas.List.{get_or_past}
 use lib.Bits.{bit_or}
 use Rattle.std.proofs.lemmas.Nat.{or_lt}
-use Rattle.std.proofs.lemmas.Bool.{cases_eq, cases_lt, eq-eqb, ne_eqb, eqb-true, cond-true, cond-false, lt-ltb, le-ltb}
+use Rattle.std.proofs.lemmas.Bool.{cases_eq, cases_lt, eq-eqb, ne_eqb, eqb-true, cond-false, le-ltb}
 use Rattle.bits.specs.declared.Bits.{Bits}
 use Rattle.bits.specs.Fits.{lowest}
 use Rattle.meanings.specs.Packed.{bit, packed}
@@ -10,7 +11,7 @@ use Rattle.meanings.specs.Sets.{NumberSet, only, union, within, set_word}
 use Rattle.meanings.proofs.Everywhere.{every_each, every_from}
 use Rattle.meanings.proofs.Packing.{bit_bit_or, bit_power, bit_zero, bits_same, packed_bits, packed_same}
 use Rattle.meanings.proofs.SetLaws.{word_in, implied, implies}
-use Rattle.meanings.proofs.Slotwise.{Merged, Passing, blank}
+use Rattle.meanings.proofs.Slotwise.{blank}
 
 -- the numbers that words hold
 abbrev pub held : List ℕ → NumberSet
@@ -33,20 +34,16 @@ one_number n small = λ i e. at e i
         ∙ sym (ne_eqb e.value n (λ q. s (ap (λ (k : ℕ). k / 32) q))))
         (cases_eq (e.value / 32) (n / 32))
 
--- without a bit there is no number
-pub no_number : (e : Bits 8) → held (replicate 8 0) e ≡ false
-no_number e = ap (λ (w : ℕ). bit w (e.value % 32)) (blank 0 8 (e.value / 32)) ∙ bit_zero (e.value % 32)
-
 -- words taken together, one by one, are sets taken together
-pub held_merged : (a b ws : List ℕ) (i : ℕ) → 8 ≤ i → Merged 0 bit_or a b i ws → held ws ≡ union (held a) (held b)
-held_merged a b ws i all m = λ t e. (ap (λ (w : ℕ). bit w (e.value % 32)) (m.done (e.value / 32) (omega (arith, e.fits))) ∙ bit_bit_or (get_or a (e.value / 32) 0) (get_or b (e.value / 32) 0) (e.value % 32)) t
+pub held_merged : (a b ws : List ℕ) → ((k : ℕ) → k < 8 → get_or ws k 0 ≡ bit_or (get_or a k 0) (get_or b k 0)) → held ws ≡ union (held a) (held b)
+held_merged a b ws m = λ t e. (ap (λ (w : ℕ). bit w (e.value % 32)) (m (e.value / 32) (omega (arith, e.fits))) ∙ bit_bit_or (get_or a (e.value / 32) 0) (get_or b (e.value / 32) 0) (e.value % 32)) t
 
 -- a test of two words, and of their bits
 abbrev pub inside : ℕ → ℕ → Bool
 inside x y = eqb (bit_or x y) y
 
-pub held_within : (a b : List ℕ) (i : ℕ) → 8 ≤ i → Passing 0 inside a b i → within (held a) (held b) ≡ true
-held_within a b i all f = every_from (λ e. not (held a e) || held b e) (λ e.
+pub held_within : (a b : List ℕ) → ((k : ℕ) → k < 8 → inside (get_or a k 0) (get_or b k 0) ≡ true) → within (held a) (held b) ≡ true
+held_within a b f = every_from (λ e. not (held a e) || held b e) (λ e.
     let x = get_or a (e.value / 32) 0 in
     let y = get_or b (e.value / 32) 0 in
     let same = eqb-true (bit_or x y) y (f (e.value / 32) (omega (arith, e.fits))) in
@@ -74,21 +71,19 @@ within_held a b k small p q e =
     ∙ held_at b k small j h))
 
 -- a word is made of its numbers
-pub word_held : (ws : List ℕ) (i : ℕ) → cond (ltb i 8) (get_or ws i 0) 0 < 2 ^ 32 → cond (ltb i 8) (get_or ws i 0) 0 ≡ (set_word (held ws) i).value
-word_held ws i fits = ⊎_elim inner outer (cases_lt i 8)
+pub word_held : (ws : List ℕ) (i : ℕ) → length ws ≡ 8 → get_or ws i 0 < 2 ^ 32 → get_or ws i 0 ≡ (set_word (held ws) i).value
+word_held ws i eight fits = ⊎_elim inner outer (cases_lt i 8)
   where
-    inner : i < 8 → cond (ltb i 8) (get_or ws i 0) 0 ≡ (set_word (held ws) i).value
+    inner : i < 8 → get_or ws i 0 ≡ (set_word (held ws) i).value
     inner h =
-        let here = cond-true (ltb i 8) (get_or ws i 0) 0 (lt-ltb i 8 h) in
         let bits : (j : ℕ) → j < 32 → bit (get_or ws i 0) j ≡ held ws (lowest 8 (32 * i + j)) = λ j l.
         let row : i ≡ (32 * i + j) % 2 ^ 8 / 32 = omega arith in
         let col : j ≡ (32 * i + j) % 2 ^ 8 % 32 = omega arith in
         λ t. bit (get_or ws (row t) 0) (col t) in
-        here
-        ∙ sym (mod-eq_of_lt (subst (λ (n : ℕ). n < 2 ^ 32) here fits))
+        sym (mod-eq_of_lt fits)
         ∙ sym (packed_bits (get_or ws i 0) 32)
         ∙ packed_same (bit (get_or ws i 0)) (λ j. held ws (lowest 8 (32 * i + j))) 32 bits
         ∙ sym (word_in (held ws) i h)
 
-    outer : 8 ≤ i → cond (ltb i 8) (get_or ws i 0) 0 ≡ (set_word (held ws) i).value
-    outer h = cond-false (ltb i 8) (get_or ws i 0) 0 (le-ltb i 8 h) ∙ sym (ap (λ (w : Bits 32). w.value) (cond-false {A = Bits 32} (ltb i 8) (lowest 32 (packed (λ j. held ws (lowest 8 (32 * i + j))) 32)) (lowest 32 0) (le-ltb i 8 h)))
+    outer : 8 ≤ i → get_or ws i 0 ≡ (set_word (held ws) i).value
+    outer h = get_or_past ws i 0 (omega arith) ∙ sym (ap (λ (w : Bits 32). w.value) (cond-false {A = Bits 32} (ltb i 8) (lowest 32 (packed (λ j. held ws (lowest 8 (32 * i + j))) 32)) (lowest 32 0) (le-ltb i 8 h)))

@@ -1,18 +1,19 @@
 // Set: a set of the numbers below 256, held as eight words.
 #![tactic(auto)]
 
-ghost use Rattle.std.specs.Prelude.{◌≡◌, ◌/◌, ◌%◌, ◌^◌, ◌<◌, if◌then◌else◌, ◌==◌, bit_or, nat_lt, slice_index};
+ghost use Rattle.std.specs.Prelude.{◌≡◌, ◌/◌, ◌%◌, ◌^◌, ◌==◌, bit_or, slice_index};
 ghost use Rattle.meanings.specs.Sets.{set_meaning};
 ghost use Rattle.meanings.proofs.SetLaws.{set_laws};
 ghost use Rattle.set.specs.Means.{members};
 
 use bits::Code;
 use lattice::Lattice;
+use std::array;
 
 const WORDS: usize = 8;
 
 // Number e is bit e mod 32 of word e / 32.
-#[derive(Clone, Copy)]
+#[derive(Clone, Copy, Debug, PartialEq, Eq)]
 pub struct Set {
     words: [u32; WORDS],
 }
@@ -43,10 +44,13 @@ fn is_within(first: u32, second: u32) -> bool
     union(first, second) == second
 }
 
-fn word_at(words: &[u32; WORDS], i: u8) -> u32
-    ensures { result ≡ (if nat_lt i 8 then slice_index words.now i else 0) }
-{
-    if i < 8 { words[i as usize] } else { 0 }
+impl Set {
+    // A word, and 0 past the last.
+    fn word_at(&self, i: usize) -> u32
+        ensures { result ≡ slice_index self.now.words i }
+    {
+        self.words.get(i).copied().unwrap_or(0)
+    }
 }
 
 impl Lattice for Set {
@@ -77,18 +81,11 @@ impl Lattice for Set {
     }
 
     fn join(&mut self, other: Set) {
-        for i in 0..WORDS {
-            self.words[i] = union(self.words[i], other.words[i]);
-        }
+        self.words = array::from_fn(|i| union(self.word_at(i), other.word_at(i)));
     }
 
     fn is_below(&self, other: &Set) -> bool {
-        for i in 0..WORDS {
-            if !is_within(self.words[i], other.words[i]) {
-                return false;
-            }
-        }
-        true
+        (0..WORDS).all(|i| is_within(self.word_at(i), other.word_at(i)))
     }
 
     fn label() -> u8 {
@@ -100,6 +97,6 @@ impl Lattice for Set {
     }
 
     fn word(&self, i: u8) -> u32 {
-        word_at(&self.words, i)
+        self.word_at(usize::from(i))
     }
 }

@@ -1,23 +1,33 @@
 -- A text and its lines, one by one.
-use Rattle.std.proofs.Common.{◌≡◌, ℕ, ◌+◌, ◌-◌, ◌<◌, ◌≤◌, Bool, true, false, eqb, leb, List, [], ◌∷◌, ◌++◌, length, get_or, take, drop, set, Ok, Err, Result, sym, refl, ap, ◌∙◌, add-one, arith}
+use Rattle.std.proofs.Common.{◌≡◌, ℕ, ◌+◌, ◌-◌, ◌<◌, ◌≤◌, Bool, true, false, eqb, leb, List, [], ◌∷◌, ◌++◌, length, take, drop, set, Ok, Err, Result, Some, None, Option, sym, refl, ap, ◌∙◌, add-one, zero-add, arith, ◌==◌}
 use borrow.Rule.Slice.PartMut.{put_mid}
-use Rattle.std.proofs.lemmas.List.{at_drop_more, at_drop_all, drop-drop, length-drop, length-append, append_assoc, take_more_set, drop-set-lt}
-use Rattle.std.proofs.lemmas.Bool.{cond-true, cond-false, eq-eqb, ne_eqb, le-leb, lt-leb, cond_both}
+use Rattle.std.proofs.lemmas.List.{drop-drop, length-append, append_assoc, take_more_set, drop-set-lt}
+use Rattle.std.specs.List.{position, position_from}
+use Rattle.std.proofs.lemmas.Iterator.Adapters.{position_from-zero}
+use Rattle.std.proofs.lemmas.Bool.{cond-true, cond-false, le-leb, lt-leb}
+use Rattle.std.proofs.lemmas.Bool.Decides.{nat_tests}
 use Rattle.text.specs.declared.section.Section.{Section}
 use Rattle.text.specs.declared.refusal.Cause.{Cause}
 use Rattle.text.specs.declared.section.Section.TheVariants.{Head, Tasks, Code}
 use Rattle.text.specs.declared.refusal.Cause.TheVariants.{Grammar, Room}
 use Rattle.text.specs.declared.refusal.Refusal.{Refusal}
-use Rattle.text.specs.Reading.{line_len, lines_of, onto, line_in, outcome, outcome_by, ended, prefixed, refused, pasted}
+use Rattle.text.specs.Reading.{ends_line, line_len, lines_of, onto, line_in, outcome, outcome_by, ended, prefixed, refused, pasted}
 
-pub line_len_more : (text : List ℕ) (i : ℕ) → i < length text → (get_or text i 0 ≡ 10 → ⊥) → line_len (drop i text) ≡ line_len (drop (i + 1) text) + 1
-line_len_more text i lt ne = at_drop_more line_len text i 0 lt ∙ cond-false (eqb (get_or text i 0) 10) _ _ (ne_eqb _ _ ne)
+-- where a line ends that begins n bytes on, by the place of its LF
+abbrev pub end_by : Option ℕ → ℕ → ℕ
+end_by None n = n
+end_by (Some i) n = i + 1
 
-pub line_len_ends : (text : List ℕ) (i : ℕ) → i < length text → get_or text i 0 ≡ 10 → line_len (drop i text) ≡ 1
-line_len_ends text i lt e = at_drop_more line_len text i 0 lt ∙ cond-true (eqb (get_or text i 0) 10) _ _ (eq-eqb _ _ e)
+line_len_from : (cs : List ℕ) (i : ℕ) → end_by (position_from ends_line i cs) (i + length cs) ≡ i + line_len cs
+line_len_from [] i = refl
+line_len_from (c ∷ cs) i = go (eqb c 10) refl (line_len_from cs (i + 1))
+  where
+    go : (b : Bool) → eqb c 10 ≡ b → end_by (position_from ends_line (i + 1) cs) (i + 1 + length cs) ≡ i + 1 + line_len cs → end_by (position_from ends_line i (c ∷ cs)) (i + length (c ∷ cs)) ≡ i + line_len (c ∷ cs)
+    go true e more = rw e refl
+    go false e more = rw e (ap (end_by (position_from ends_line (i + 1) cs)) (omega arith) ∙ more ∙ omega arith)
 
-pub line_len_past : (text : List ℕ) (i : ℕ) → length text ≤ i → line_len (drop i text) ≡ 0
-line_len_past text i h = at_drop_all line_len text i h
+pub line_len_by : (cs : List ℕ) → end_by (position ends_line cs) (length cs) ≡ line_len cs
+line_len_by cs = ap (λ (o : Option ℕ). end_by o (length cs)) (position_from-zero ends_line cs) ∙ ap (end_by (position_from ends_line 0 cs)) (sym (zero-add (length cs))) ∙ line_len_from cs 0 ∙ zero-add (line_len cs)
 
 -- the first line, and the lines of what follows it
 pub lines_next : (bs : List ℕ) → 0 < length bs → lines_of bs ≡ take (line_len bs) bs ∷ lines_of (drop (line_len bs) bs)
@@ -33,13 +43,22 @@ lines_next (c ∷ d ∷ ds) h = go (eqb c 10) refl (lines_next (d ∷ ds) (omega
     go true e more = rw e refl
     go false e more = rw (e, add-one) (ap (onto c) more)
 
--- the same from a place of a text on
-lines_at : (text : List ℕ) (at : ℕ) → at < length text → lines_of (drop at text) ≡ take (line_len (drop at text)) (drop at text) ∷ lines_of (drop (at + line_len (drop at text)) text)
-lines_at text at lt = lines_next (drop at text) (omega (arith, length-drop at text)) ∙ ap (λ (l : List ℕ). take (line_len (drop at text)) (drop at text) ∷ lines_of l) (drop-drop (line_len (drop at text)) at text)
+-- the same of a text that is cut behind its first line
+pub lines_cut : (bs line rest : List ℕ) (n : ℕ) → (length bs == 0) ≡ false → n ≡ line_len bs → line ≡ take n bs → rest ≡ drop n bs → lines_of bs ≡ line ∷ lines_of rest
+lines_cut bs line rest n some is front back = rw (front, back, is) (lines_next bs (grind (arith, nat_tests)))
 
-line_len_some : (bs : List ℕ) → 0 < length bs → 0 < line_len bs
-line_len_some [] h = absurd (omega arith)
-line_len_some (c ∷ cs) h = cond_both (eqb c 10) 1 (line_len cs + 1) (λ (n : ℕ). 0 < n) (λ _. omega arith) (λ _. omega arith)
+-- a text has no more lines than bytes
+pub lines_few : (cs : List ℕ) → length (lines_of cs) ≤ length cs
+lines_few [] = omega arith
+lines_few (c ∷ cs) = go (eqb c 10) refl (lines_few cs)
+  where
+    onto_few : (ls : List (List ℕ)) → length ls ≤ length cs → length (onto c ls) ≤ length (c ∷ cs)
+    onto_few [] h = omega arith
+    onto_few (l ∷ ls) h = omega arith
+
+    go : (b : Bool) → eqb c 10 ≡ b → length (lines_of cs) ≤ length cs → length (lines_of (c ∷ cs)) ≤ length (c ∷ cs)
+    go true e few = rw e (omega arith)
+    go false e few = rw e (onto_few (lines_of cs) few)
 
 -- so many words, and those that are still to come
 abbrev pub more : ℕ → Result (List ℕ) Refusal → Result ℕ Refusal
@@ -50,35 +69,20 @@ pub more_prefixed : (n : ℕ) (ws : List ℕ) (o : Result (List ℕ) Refusal) �
 more_prefixed n ws (Ok vs) = ap Ok (omega (arith, length-append ws vs))
 more_prefixed n ws (Err e) = refl
 
--- the line from `at` up to `end`, in section s, where it is line k
-module _ (text : List ℕ) (at end : ℕ) (lt : at < length text) (is : end ≡ at + line_len (drop at text)) where
-  abbrev pub line : List ℕ
-  line = take (end - at) (drop at text)
+-- a line and the lines behind it, where it stands in section s, is line k, and so many words find room
+module _ (left : List (List ℕ)) (line : List ℕ) (after : List (List ℕ)) (is : left ≡ line ∷ after) (s : Section) (k room : ℕ) where
+  -- what the line comes to decides what the lines from it on come to
+  pub outcome_here : (r : Result (List ℕ × Section) Cause) → line_in s line ≡ r → outcome left s k room ≡ outcome_by (outcome after) k room r
+  outcome_here r e = ap (λ (ls : List (List ℕ)). outcome ls s k room) is ∙ ap (outcome_by (outcome after) k room) e
 
-  abbrev pub after : List (List ℕ)
-  after = lines_of (drop end text)
+  pub outcome_bad : (c : Cause) → line_in s line ≡ Err c → outcome left s k room ≡ refused c k
+  outcome_bad c e = outcome_here (Err c) e
 
-  pub line_some : at < end
-  line_some = omega (arith, line_len_some (drop at text) (omega (arith, length-drop at text)))
+  pub outcome_full : (ws : List ℕ) (t : Section) → line_in s line ≡ Ok (ws, t) → room < length ws → outcome left s k room ≡ refused Room k
+  outcome_full ws t e full = outcome_here (Ok (ws, t)) e ∙ cond-false (leb (length ws) room) _ _ (lt-leb (length ws) room full)
 
-  lines_here : lines_of (drop at text) ≡ line ∷ after
-  lines_here =
-      let n : line_len (drop at text) ≡ end - at = omega arith in
-      lines_at text at lt ∙ ap (λ (k : ℕ). take k (drop at text) ∷ lines_of (drop (at + line_len (drop at text)) text)) n ∙ ap (λ (k : ℕ). line ∷ lines_of (drop k text)) (sym is)
-
-  module _ (s : Section) (k room : ℕ) where
-    -- what one line comes to decides what the lines from it on come to
-    pub outcome_here : (r : Result (List ℕ × Section) Cause) → line_in s line ≡ r → outcome (lines_of (drop at text)) s k room ≡ outcome_by (outcome after) k room r
-    outcome_here r e = ap (λ (ls : List (List ℕ)). outcome ls s k room) lines_here ∙ ap (outcome_by (outcome after) k room) e
-
-    pub outcome_bad : (c : Cause) → line_in s line ≡ Err c → outcome (lines_of (drop at text)) s k room ≡ refused c k
-    outcome_bad c e = outcome_here (Err c) e
-
-    pub outcome_full : (ws : List ℕ) (t : Section) → line_in s line ≡ Ok (ws, t) → room < length ws → outcome (lines_of (drop at text)) s k room ≡ refused Room k
-    outcome_full ws t e full = outcome_here (Ok (ws, t)) e ∙ cond-false (leb (length ws) room) _ _ (lt-leb (length ws) room full)
-
-    pub outcome_more : (ws : List ℕ) (t : Section) → line_in s line ≡ Ok (ws, t) → length ws ≤ room → outcome (lines_of (drop at text)) s k room ≡ prefixed ws (outcome after t (k + 1) (room - length ws))
-    outcome_more ws t e fits = outcome_here (Ok (ws, t)) e ∙ cond-true (leb (length ws) room) _ _ (le-leb (length ws) room fits)
+  pub outcome_more : (ws : List ℕ) (t : Section) → line_in s line ≡ Ok (ws, t) → length ws ≤ room → outcome left s k room ≡ prefixed ws (outcome after t (k + 1) (room - length ws))
+  outcome_more ws t e fits = outcome_here (Ok (ws, t)) e ∙ cond-true (leb (length ws) room) _ _ (le-leb (length ws) room fits)
 
 -- a line's words written over a buffer: the first, and then those of its triggers
 pub stored_words : (words triggers ys : List ℕ) (at first k : ℕ) → at < length words → ys ≡ triggers → k ≡ length triggers → put_mid (at + 1) k (set words at first) ys ≡ pasted words at (first ∷ triggers)

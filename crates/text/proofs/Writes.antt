@@ -1,15 +1,15 @@
 -- What the second pass has written so far.
-use Rattle.std.proofs.Common.{◌≡◌, ℕ, ◌+◌, ◌-◌, ◌<◌, ◌≤◌, Bool, true, false, cond, leb, List, [], ◌++◌, length, drop, is_ok, Ok, Err, Result, sym, refl, ap, ◌∙◌, arith}
+use Rattle.std.proofs.Common.{◌≡◌, ℕ, ◌+◌, ◌-◌, ◌<◌, ◌≤◌, Bool, true, false, cond, leb, List, [], ◌∷◌, ◌++◌, length, drop, is_ok, Ok, Err, Result, sym, refl, ap, ◌∙◌, arith}
 use native.Mathlib.Nat.{sub-zero}
-use Rattle.std.proofs.lemmas.List.{append_assoc, append-nil, at_drop_all, drop-drop, drop_at, take_at, length-append}
+use Rattle.std.proofs.lemmas.List.{append_assoc, append-nil, drop-drop, drop_at, take_at, length-append}
 use Rattle.std.proofs.lemmas.Bool.{leb-true, true≢false}
 use Rattle.text.specs.declared.section.Section.{Section}
 use Rattle.text.specs.declared.section.Section.TheVariants.{Head, Tasks, Code}
 use Rattle.text.specs.declared.refusal.Cause.{Cause}
 use Rattle.text.specs.declared.refusal.Cause.TheVariants.{Room}
 use Rattle.text.specs.declared.refusal.Refusal.{Refusal}
-use Rattle.text.specs.Reading.{line_len, lines_of, line_in, ended, outcome, outcome_by, prefixed, refused, reading, written, pasted}
-use Rattle.text.proofs.Cuts.{line, after, outcome_here}
+use Rattle.text.specs.Reading.{lines_of, line_in, ended, outcome, outcome_by, prefixed, refused, reading, written, pasted}
+use Rattle.text.proofs.Cuts.{outcome_here}
 
 pub same_ok : {X Y : Type 0} {x y : X} → ◌≡◌ {A = Result X Y} (Ok x) (Ok y) → x ≡ y
 same_ok e = cc
@@ -17,22 +17,21 @@ same_ok e = cc
 pub err_ok : {X Y P : Type 0} {x : X} {y : Y} → ◌≡◌ {A = Result X Y} (Err y) (Ok x) → P
 err_ok e = let z : ◌≡◌ {A = ℕ} 0 1 = cc in absurd (omega arith)
 
--- the words before place i stand in the buffer, and the lines from `at` on give the others
-pub record Sofar (text start words : List ℕ) (s : Section) (at i : ℕ) : Type 0 where
+-- the words before place i stand in the buffer, and the lines that are left give the others
+pub record Sofar (text start words : List ℕ) (s : Section) (left : List (List ℕ)) (i : ℕ) : Type 0 where
   pub line_number : ℕ
   pub front : List ℕ
   pub rest : List ℕ
-  pub inside : at ≤ length text
-  pub goes_on : outcome (lines_of (drop at text)) s line_number (length start - i) ≡ Ok rest
+  pub goes_on : outcome left s line_number (length start - i) ≡ Ok rest
   pub whole : reading (length start) text ≡ Ok (front ++ rest)
   pub long : length front ≡ i
   pub stand : words ≡ front ++ drop i start
 
-pub sofar_none : (text start : List ℕ) → is_ok (reading (length start) text) ≡ true → Sofar text start start Head 0 0
+pub sofar_none : (text start : List ℕ) → is_ok (reading (length start) text) ≡ true → Sofar text start start Head (lines_of text) 0
 sofar_none text start ok = go (reading (length start) text) refl ok
   where
-    go : (r : Result (List ℕ) Refusal) → reading (length start) text ≡ r → is_ok r ≡ true → Sofar text start start Head 0 0
-    go (Ok ws) e ok = record { line_number = 1; front = []; rest = ws; inside = omega arith; goes_on = ap (outcome (lines_of text) Head 1) (sub-zero (length start)) ∙ e; whole = e; long = refl; stand = refl }
+    go : (r : Result (List ℕ) Refusal) → reading (length start) text ≡ r → is_ok r ≡ true → Sofar text start start Head (lines_of text) 0
+    go (Ok ws) e ok = record { line_number = 1; front = []; rest = ws; goes_on = ap (outcome (lines_of text) Head 1) (sub-zero (length start)) ∙ e; whole = e; long = refl; stand = refl }
     go (Err x) e ok = absurd (true≢false (sym ok))
 
 -- a line's words lead the words of the lines from it on
@@ -48,10 +47,10 @@ module _ (o : Section → ℕ → ℕ → Result (List ℕ) Refusal) (k room : �
       go true fits e = (leb-true (length ws) room fits, led (o t (k + 1) (room - length ws)) e)
       go false fits e = err_ok e
 
-module _ (text start words : List ℕ) (s : Section) (at i : ℕ) (so : Sofar text start words s at i) where
-  pub sofar_all : length text ≤ at → words ≡ written (reading (length start) text) start
+module _ (text start words : List ℕ) (s : Section) (left : List (List ℕ)) (i : ℕ) (so : Sofar text start words s left i) where
+  pub sofar_all : left ≡ [] → words ≡ written (reading (length start) text) start
   sofar_all past =
-      let last : ended s so.line_number ≡ Ok so.rest = sym (at_drop_all (λ (l : List ℕ). outcome (lines_of l) s so.line_number (length start - i)) text at past) ∙ so.goes_on in
+      let last : ended s so.line_number ≡ Ok so.rest = sym (ap (λ (ls : List (List ℕ)). outcome ls s so.line_number (length start - i)) past) ∙ so.goes_on in
       let none = nothing s so.line_number so.rest last in
       so.stand
       ∙ ap (λ (k : ℕ). so.front ++ drop k start) (sym so.long)
@@ -62,22 +61,22 @@ module _ (text start words : List ℕ) (s : Section) (at i : ℕ) (so : Sofar te
       nothing (Tasks n) k ws e = err_ok e
       nothing Code k ws e = sym (same_ok e)
 
-  module _ (end : ℕ) (lt : at < length text) (is : end ≡ at + line_len (drop at text)) where
-    here : (r : Result (List ℕ × Section) Cause) → line_in s (line text at end lt is) ≡ r → outcome_by (outcome (after text at end lt is)) so.line_number (length start - i) r ≡ Ok so.rest
-    here r e = sym (outcome_here text at end lt is s so.line_number (length start - i) r e) ∙ so.goes_on
+  module _ (line : List ℕ) (after : List (List ℕ)) (is : left ≡ line ∷ after) where
+    here : (r : Result (List ℕ × Section) Cause) → line_in s line ≡ r → outcome_by (outcome after) so.line_number (length start - i) r ≡ Ok so.rest
+    here r e = sym (outcome_here left line after is s so.line_number (length start - i) r e) ∙ so.goes_on
 
-    pub never_refused : (c : Cause) → line_in s (line text at end lt is) ≡ Err c → ⊥
+    pub never_refused : (c : Cause) → line_in s line ≡ Err c → ⊥
     never_refused c e = err_ok (here (Err c) e)
 
-    module _ (ws : List ℕ) (t : Section) (e : line_in s (line text at end lt is) ≡ Ok (ws, t)) where
-      next : (length ws ≤ length start - i) × ((more : List ℕ) × (outcome (after text at end lt is) t (so.line_number + 1) (length start - i - length ws) ≡ Ok more) × (so.rest ≡ ws ++ more))
-      next = one_line (outcome (after text at end lt is)) so.line_number (length start - i) so.rest ws t (here (Ok (ws, t)) e)
+    module _ (ws : List ℕ) (t : Section) (e : line_in s line ≡ Ok (ws, t)) where
+      next : (length ws ≤ length start - i) × ((more : List ℕ) × (outcome after t (so.line_number + 1) (length start - i - length ws) ≡ Ok more) × (so.rest ≡ ws ++ more))
+      next = one_line (outcome after) so.line_number (length start - i) so.rest ws t (here (Ok (ws, t)) e)
 
       pub room_left : length ws ≤ length start - i
       room_left = next.0
 
-      pub sofar_more : end ≤ length text → 0 < length ws → Sofar text start (pasted words i ws) t end (i + length ws)
-      sofar_more within some =
+      pub sofar_more : 0 < length ws → Sofar text start (pasted words i ws) t after (i + length ws)
+      sofar_more some =
           let found = next.1 in
           let more = found.0 in
           let fits = room_left in
@@ -86,8 +85,7 @@ module _ (text start words : List ℕ) (s : Section) (at i : ℕ) (so : Sofar te
             line_number = so.line_number + 1;
             front = so.front ++ ws;
             rest = more;
-            inside = within;
-            goes_on = ap (outcome (after text at end lt is) t (so.line_number + 1)) (sym left) ∙ found.1;
+            goes_on = ap (outcome after t (so.line_number + 1)) (sym left) ∙ found.1;
             whole = so.whole ∙ ap (λ (l : List ℕ). Ok (so.front ++ l)) found.2 ∙ ap Ok (sym (append_assoc so.front ws more));
             long = length-append so.front ws ∙ ap (λ (k : ℕ). k + length ws) so.long;
             stand = ap (λ (l : List ℕ). pasted l i ws) so.stand

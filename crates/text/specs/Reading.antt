@@ -1,9 +1,11 @@
 -- What reading a text gives: its words, or a refusal's number and line.
-use Rattle.std.specs.Prelude.{ℕ, ◌+◌, ◌-◌, cond, List, [], ◌∷◌, ◌++◌, length, take, drop, Some, None, Ok, Err, Option, Result, ◌==◌, nat_le}
+use Rattle.std.specs.Prelude.{ℕ, Bool, ◌+◌, ◌-◌, cond, List, [], ◌∷◌, ◌++◌, length, take, drop, Ok, Err, Option, Result, ◌==◌, nat_le}
 use Rattle.words.specs.Heads.{head_word}
 use Rattle.words.specs.Entries.{entry_word}
+use Rattle.lines.specs.declared.LineError.{LineError}
+use Rattle.lines.specs.declared.LineError.TheVariants as error
 use Rattle.lines.specs.declared.wording.LineWords.{LineWords}
-use Rattle.lines.specs.Lines.{head_line, entry_line, code_line, statement_words, inside, told}
+use Rattle.lines.specs.Lines.{head_line, entry_line, code_line, statement_words, inside, judged as line_judged, told}
 use Rattle.text.specs.declared.section.Section.{Section}
 use Rattle.text.specs.declared.section.Section.TheVariants.{Head, Tasks, Code}
 use Rattle.text.specs.declared.refusal.Cause.{Cause}
@@ -20,11 +22,18 @@ number Room = 3
 abbrev pub numbered : Refusal → ℕ × ℕ
 numbered r = (number r.cause, r.line)
 
+-- why a line is refused, as a cause to refuse its text
+abbrev pub caused : LineError → Cause
+caused error.Grammar = Grammar
+caused error.Range = Range
+
+abbrev pub of_line : {X : Type 0} → Result X LineError → Result X Cause
+of_line (Ok x) = Ok x
+of_line (Err e) = Err (caused e)
+
 -- a line is refused for its grammar before it is refused for its numbers
 abbrev pub judged : {X : Type 0} → Option (Option X) → Result X Cause
-judged None = Err Grammar
-judged (Some None) = Err Range
-judged (Some (Some x)) = Ok x
+judged o = of_line (line_judged o)
 
 -- what is made of what was read
 abbrev pub onward : {X Y : Type 0} → (X → Y) → Result X Cause → Result Y Cause
@@ -67,6 +76,10 @@ onto c (l ∷ ls) = (c ∷ l) ∷ ls
 abbrev pub lines_of : List ℕ → List (List ℕ)
 lines_of [] = []
 lines_of (c ∷ cs) = cond (c == 10) ((c ∷ []) ∷ lines_of cs) (onto c (lines_of cs))
+
+-- a line's end
+abbrev pub ends_line : ℕ → Bool
+ends_line c = c == 10
 
 -- how long the first line is
 abbrev pub line_len : List ℕ → ℕ

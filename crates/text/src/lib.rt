@@ -1,6 +1,7 @@
 // Reads a program's text: words out, or a refusal with its line.
 #![tactic(auto)]
 
+mod cutting;
 pub mod reader;
 pub mod refusal;
 mod section;

@@ -1,9 +1,10 @@
 // Reads the lines of a text one after the other. The first pass judges and counts, the second writes.
-ghost use Rattle.std.specs.Prelude.{◌≡◌, ◌+◌, ◌<◌, ◌≤◌, true, length, drop, is_ok};
+ghost use Rattle.std.specs.Prelude.{◌≡◌, ◌+◌, ◌≤◌, true, length, is_ok};
 ghost use Rattle.lines.specs.Lines.{told};
-ghost use Rattle.text.specs.Reading.{line_len, reading, counted, written, pasted, answered, read_text};
+ghost use Rattle.text.specs.Reading.{reading, counted, written, pasted, answered, read_text};
 ghost use Rattle.text.specs.Law.{Grammar};
 
+use crate::cutting::TextLines;
 use crate::section::{Section, read_line};
 use crate::{Cause, Refusal};
 use lines::LineWords;
@@ -27,52 +28,35 @@ fn read_words(text: &[u8], words: &mut [u32]) -> Result<usize, Refusal>
     Ok(count)
 }
 
-// The place after the line that begins at `at`.
-fn line_end(text: &[u8], at: usize) -> usize
-    requires { at < length text.now }
-    ensures is { result ≡ at + line_len (drop at text.now) }
-    ensures within { result ≤ length text.now }
-{
-    let mut end = at;
-    while end < text.len() {
-        if text[end] == b'\n' {
-            return end + 1;
-        }
-        end += 1;
-    }
-    end
-}
-
 // How many words the text has, or why it is refused.
 fn measure(text: &[u8], room: usize) -> Result<usize, Refusal>
     ensures { result ≡ counted (reading room text.now) }
 {
+    // No text is so long that its lines cannot be numbered.
+    prove!(text.len() < usize::MAX);
     let mut section = Section::Head;
-    let mut line = 1;
+    let mut number = 1;
     let mut count = 0;
-    let mut at = 0;
-    while at < text.len() {
-        let end = line_end(text, at);
-        let (words, next) = match read_line(section, &text[at..end]) {
-            Ok(read) => read,
-            Err(cause) => return Err(Refusal { cause, line }),
-        };
+    for line in TextLines::new(text) {
+        let (words, next) = read_line(section, line).map_err(|cause| Refusal {
+            cause,
+            line: number,
+        })?;
         if words.len() > room - count {
             return Err(Refusal {
                 cause: Cause::Room,
-                line,
+                line: number,
             });
         }
         count += words.len();
         section = next;
-        line += 1;
-        at = end;
+        number += 1;
     }
     match section {
         Section::Code => Ok(count),
         _ => Err(Refusal {
             cause: Cause::Grammar,
-            line,
+            line: number,
         }),
     }
 }
@@ -95,16 +79,12 @@ fn write(text: &[u8], words: &mut [u32])
 {
     let mut section = Section::Head;
     let mut count = 0;
-    let mut at = 0;
-    while at < text.len() {
-        let end = line_end(text, at);
-        let (line, next) = match read_line(section, &text[at..end]) {
-            Ok(read) => read,
-            Err(_) => unreachable(),
+    for line in TextLines::new(text) {
+        let Ok((read, next)) = read_line(section, line) else {
+            unreachable!()
         };
-        store(words, count, &line);
-        count += line.len();
+        store(words, count, &read);
+        count += read.len();
         section = next;
-        at = end;
     }
 }

@@ -1,11 +1,13 @@
 // Why a text is refused.
 ghost use Rattle.std.specs.Prelude.{◌≡◌};
-ghost use Rattle.text.specs.Reading.{number};
+ghost use Rattle.text.specs.Reading.{caused, number};
 
-#[derive(Clone, Copy)]
+use lines::LineError;
+
+#[derive(Clone, Copy, Debug, PartialEq, Eq)]
 pub enum Cause {
     // The line does not fit the grammar, or the text ends early.
-    Grammar,
+    Grammar = 1,
     // A number does not fit its field's bits.
     Range,
     // The word buffer is too short.
@@ -13,7 +15,7 @@ pub enum Cause {
 }
 
 // A cause, and the line that it was met at, from 1.
-#[derive(Clone, Copy)]
+#[derive(Clone, Copy, Debug, PartialEq, Eq)]
 pub struct Refusal {
     pub cause: Cause,
     pub line: usize,
@@ -23,10 +25,17 @@ impl Cause {
     pub fn number(self) -> u32
         ensures { result ≡ number self }
     {
-        match self {
-            Cause::Grammar => 1,
-            Cause::Range => 2,
-            Cause::Room => 3,
+        self as u32
+    }
+}
+
+impl From<LineError> for Cause {
+    ghost from_gives = { λ error cause. cause ≡ caused error };
+
+    fn from(error: LineError) -> Cause {
+        match error {
+            LineError::Grammar => Cause::Grammar,
+            LineError::Range => Cause::Range,
         }
     }
 }

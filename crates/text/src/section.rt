@@ -1,19 +1,20 @@
 // The parts of a text: its first line, its task lines and its code.
 ghost use Rattle.std.specs.Prelude.{◌≡◌, ◌-◌};
-ghost use Rattle.text.specs.Reading.{judged as line_judged, tasks_left, head_in, entry_in, code_in, line_in, told_line};
+ghost use Rattle.text.specs.Reading.{tasks_left, head_in, entry_in, code_in, line_in, told_line};
 
 use crate::Cause;
-use lexer::fields::Fitting;
 use lines::{LineWords, code_line, entry_line, head_line};
+use words::Word;
 
-#[derive(Clone, Copy)]
+#[derive(Clone, Copy, Debug, PartialEq, Eq)]
 pub enum Section {
     Head,
     Tasks(u32),
     Code,
 }
 
-// The words of a line, and the section of the line behind it.
+// The words of a line, and the section of the line behind it. By a match no section can be without its reader.
+#[tactic(auto, unfolding(crate::specs::Reading::line_in))]
 pub(crate) fn read_line(section: Section, line: &[u8]) -> Result<(LineWords, Section), Cause>
     ensures { told_line result ≡ line_in section line.now }
 {
@@ -37,7 +38,7 @@ fn tasks_left(left: u32) -> Section
 fn read_head(line: &[u8]) -> Result<(LineWords, Section), Cause>
     ensures { told_line result ≡ head_in line.now }
 {
-    let head = judged(head_line(line))?;
+    let head = head_line(line)?;
     Ok((
         LineWords::single(head.encode()),
         tasks_left(head.tasks.get()),
@@ -47,7 +48,7 @@ fn read_head(line: &[u8]) -> Result<(LineWords, Section), Cause>
 fn read_entry(left: u32, line: &[u8]) -> Result<(LineWords, Section), Cause>
     ensures { told_line result ≡ entry_in left line.now }
 {
-    let entry = judged(entry_line(line))?;
+    let entry = entry_line(line)?;
     Ok((
         LineWords::single(entry.encode()),
         tasks_left(left.saturating_sub(1)),
@@ -57,17 +58,6 @@ fn read_entry(left: u32, line: &[u8]) -> Result<(LineWords, Section), Cause>
 fn read_code(line: &[u8]) -> Result<(LineWords, Section), Cause>
     ensures { told_line result ≡ code_in line.now }
 {
-    let words = judged(code_line(line))?;
+    let words = code_line(line)?;
     Ok((words, Section::Code))
-}
-
-// A line is refused for its grammar before it is refused for its numbers.
-fn judged<T>(line: Option<Fitting<T>>) -> Result<T, Cause>
-    ensures { result ≡ line_judged line }
-{
-    match line {
-        None => Err(Cause::Grammar),
-        Some(None) => Err(Cause::Range),
-        Some(Some(said)) => Ok(said),
-    }
 }

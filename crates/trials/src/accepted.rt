@@ -104,21 +104,14 @@ fn last_fitting_values_are_read(rt: HostRuntime) -> Result<(), Fail> {
         text.extend_from_slice(line.as_bytes())?;
         words.extend_from_slice(its_words)?;
     }
-    expect_words(&rt, rt.alloc(), &text, words.len(), &words)
+    expect_words(&rt, &text, words.len(), &words)
 }
 
 #[test]
 fn a_text_may_have_no_code(rt: HostRuntime) -> Result<(), Fail> {
+    expect_words(&rt, b"lattice 9 cells 0 tasks 0\n", 1, &[0xf090_0000])?;
     expect_words(
         &rt,
-        rt.alloc(),
-        b"lattice 9 cells 0 tasks 0\n",
-        1,
-        &[0xf090_0000],
-    )?;
-    expect_words(
-        &rt,
-        rt.alloc(),
         b"lattice 9 cells 0 tasks 1\nidle 0 0\n",
         2,
         &[0xf090_0001, 0xe000_0000],
@@ -127,7 +120,7 @@ fn a_text_may_have_no_code(rt: HostRuntime) -> Result<(), Fail> {
 
 #[test]
 fn the_worked_example(rt: HostRuntime) -> Result<(), Fail> {
-    expect_words(&rt, rt.alloc(), EXAMPLE.as_bytes(), 64, &EXAMPLE_WORDS)
+    expect_words(&rt, EXAMPLE.as_bytes(), 64, &EXAMPLE_WORDS)
 }
 
 fn long_text(heap: Global) -> Result<Vec<u8>, AllocError> {
@@ -146,9 +139,7 @@ fn long_text(heap: Global) -> Result<Vec<u8>, AllocError> {
 fn long_words(heap: Global) -> Result<Vec<u32>, AllocError> {
     let mut words = Vec::new(heap);
     words.push(0xffff_ffff)?;
-    for _ in 0..1023 {
-        words.push(0xefff_ffff)?;
-    }
+    words.resize(1024, 0xefff_ffff)?;
     for _ in 0..1981 {
         words.extend_from_slice(&GET_WORDS)?;
     }
@@ -162,6 +153,6 @@ fn a_text_of_sixty_thousand_bytes(rt: HostRuntime) -> Result<(), Fail> {
     let words = long_words(rt.alloc())?;
     assert_eq!(rt; text.len(), 60_000);
     assert_eq!(rt; words.len(), 18_854);
-    expect_words(&rt, rt.alloc(), &text, 20_000, &words)?;
-    expect_refusal(&rt, rt.alloc(), &text, 18_853, 3, 3006, "60,000 bytes")
+    expect_words(&rt, &text, 20_000, &words)?;
+    expect_refusal(&rt, &text, 18_853, (3, 3006), "60,000 bytes")
 }

@@ -1,94 +1,88 @@
-// Programs and what the rules make of them: each row has the words, and the number of the refusal and its place,
-// or 0 and 0 for a program that is accepted.
+// Programs and what the rules make of them: each row has the words, and the number of the refusal and its place.
 use both::Both;
-use cases::trigger_cases;
+use cases::{END, Full, ONCE_HEAD, SET_HEAD as HEAD, TASK, trigger_cases};
 use lattice::Lattice;
 use lift::Lift;
 use once::Once;
+use rules::check;
 use set::Set;
 use std::alloc::Global;
 use std::process::Abort;
 use std::test::Fail;
-use versions::Versions;
 
-// One cell and one task, over Set and over Once.
-const HEAD: u32 = 0xf010_0401;
+// A program is accepted, or refused with a number at a place.
+type Verdict = Result<(), (u32, usize)>;
 
-const ONCE_HEAD: u32 = 0xf030_0401;
-
-// The task is started at place 2.
-const TASK: u32 = 0xe800_8000;
-
-const END: u32 = 0;
-
-static OVER_SET: [(&[u32], u32, usize); 142] = [
+static OVER_SET: [(&[u32], Verdict); 142] = [
     // No word.
-    (&[], 4, 0),
+    (&[], Err((4, 0))),
     // Word 0 is of another kind, or its counts are out of range.
-    (&[TASK, TASK, END], 5, 0),
-    (&[END, TASK, END], 5, 0),
-    (&[0x3fff_ffff, TASK, END], 5, 0),
-    (&[0xef10_0401, TASK, END], 5, 0),
-    (&[0xf010_0001, TASK, END], 5, 0),
-    (&[0xf014_0401, TASK, END], 5, 0),
-    (&[0xf01f_fc01, TASK, END], 5, 0),
-    (&[0xf010_0400, END, END], 5, 0),
-    (&[0xf010_0601, TASK, END], 5, 0),
-    (&[0xf010_07ff, TASK, END], 5, 0),
+    (&[TASK, TASK, END], Err((5, 0))),
+    (&[END, TASK, END], Err((5, 0))),
+    (&[0x3fff_ffff, TASK, END], Err((5, 0))),
+    (&[0xef10_0401, TASK, END], Err((5, 0))),
+    (&[0xf010_0001, TASK, END], Err((5, 0))),
+    (&[0xf014_0401, TASK, END], Err((5, 0))),
+    (&[0xf01f_fc01, TASK, END], Err((5, 0))),
+    (&[0xf010_0400, END, END], Err((5, 0))),
+    (&[0xf010_0601, TASK, END], Err((5, 0))),
+    (&[0xf010_07ff, TASK, END], Err((5, 0))),
     // Another label; the head comes before it.
-    (&[0xf000_0401, TASK, END], 6, 0),
-    (&[0xf020_0401, TASK, END], 6, 0),
-    (&[ONCE_HEAD, TASK, END], 6, 0),
-    (&[0xfff0_0401, TASK, END], 6, 0),
-    (&[0xf020_0001, TASK, END], 5, 0),
+    (&[0xf000_0401, TASK, END], Err((6, 0))),
+    (&[0xf020_0401, TASK, END], Err((6, 0))),
+    (&[ONCE_HEAD, TASK, END], Err((6, 0))),
+    (&[0xfff0_0401, TASK, END], Err((6, 0))),
+    (&[0xf020_0001, TASK, END], Err((5, 0))),
     // A word in the place of a TASK word.
-    (&[HEAD, END, END], 7, 1),
-    (&[HEAD, 0x1000_0001, END], 7, 1),
-    (&[HEAD, HEAD, END], 7, 1),
-    (&[0xf010_0403, 0xe801_0000, END, 0xe801_0000, END], 7, 2),
+    (&[HEAD, END, END], Err((7, 1))),
+    (&[HEAD, 0x1000_0001, END], Err((7, 1))),
+    (&[HEAD, HEAD, END], Err((7, 1))),
+    (
+        &[0xf010_0403, 0xe801_0000, END, 0xe801_0000, END],
+        Err((7, 2)),
+    ),
     (
         &[0xf010_0403, 0xe801_0000, 0xe801_0000, 0x3000_0001, END],
-        7,
-        3,
+        Err((7, 3)),
     ),
-    (&[0xf010_0402, END, END, END], 7, 1),
+    (&[0xf010_0402, END, END, END], Err((7, 1))),
     // Too few words; a word of another kind comes first.
-    (&[HEAD], 7, 1),
-    (&[HEAD, TASK], 7, 2),
-    (&[0xf010_0403, 0xe801_0000, 0xe801_0000], 7, 3),
-    (&[0xf010_0600, 0xe801_0000], 7, 2),
-    (&[0xf010_0403, 0xe801_0000, END], 7, 2),
+    (&[HEAD], Err((7, 1))),
+    (&[HEAD, TASK], Err((7, 2))),
+    (&[0xf010_0403, 0xe801_0000, 0xe801_0000], Err((7, 3))),
+    (&[0xf010_0600, 0xe801_0000], Err((7, 2))),
+    (&[0xf010_0403, 0xe801_0000, END], Err((7, 2))),
     // Kinds that are no code.
-    (&[HEAD, TASK, 0xa000_0000, END], 8, 2),
-    (&[HEAD, TASK, 0xb000_0000, END], 8, 2),
-    (&[HEAD, TASK, 0xc000_0000, END], 8, 2),
-    (&[HEAD, TASK, 0xd000_0000, END], 8, 2),
-    (&[HEAD, TASK, 0xe000_0000, END], 8, 2),
-    (&[HEAD, TASK, 0xf000_0000, END], 8, 2),
+    (&[HEAD, TASK, 0xa000_0000, END], Err((8, 2))),
+    (&[HEAD, TASK, 0xb000_0000, END], Err((8, 2))),
+    (&[HEAD, TASK, 0xc000_0000, END], Err((8, 2))),
+    (&[HEAD, TASK, 0xd000_0000, END], Err((8, 2))),
+    (&[HEAD, TASK, 0xe000_0000, END], Err((8, 2))),
+    (&[HEAD, TASK, 0xf000_0000, END], Err((8, 2))),
     // Spare bits: END, GET, TRIG, FREEZE, START, LET.
-    (&[HEAD, TASK, 0x0000_0001, END], 8, 2),
-    (&[HEAD, TASK, 0x0800_0000], 8, 2),
-    (&[HEAD, TASK, END, 0x0000_2000], 8, 3),
-    (&[HEAD, TASK, 0x2400_0001, 0x3000_0001, END], 8, 2),
-    (&[HEAD, TASK, 0x2000_0011, 0x3000_0001, END], 8, 2),
-    (&[HEAD, TASK, 0x2002_0001, 0x3000_0001, END], 8, 2),
-    (&[HEAD, TASK, 0x2000_0001, 0x3800_0001, END], 8, 3),
-    (&[HEAD, TASK, 0x2000_0001, 0x3004_0001, END], 8, 3),
-    (&[HEAD, TASK, 0x2000_0001, 0x3200_0001, END], 8, 3),
-    (&[HEAD, TASK, 0x4400_0000, END], 8, 2),
-    (&[HEAD, TASK, 0x4000_0001, END], 8, 2),
-    (&[HEAD, TASK, 0x4002_0000, END], 8, 2),
-    (&[HEAD, TASK, 0x7000_0200, END], 8, 2),
-    (&[HEAD, TASK, 0x7800_0000, END], 8, 2),
-    (&[HEAD, TASK, 0x8004_0000, END], 8, 2),
-    (&[HEAD, TASK, 0x8800_0000, END], 8, 2),
+    (&[HEAD, TASK, 0x0000_0001, END], Err((8, 2))),
+    (&[HEAD, TASK, 0x0800_0000], Err((8, 2))),
+    (&[HEAD, TASK, END, 0x0000_2000], Err((8, 3))),
+    (&[HEAD, TASK, 0x2400_0001, 0x3000_0001, END], Err((8, 2))),
+    (&[HEAD, TASK, 0x2000_0011, 0x3000_0001, END], Err((8, 2))),
+    (&[HEAD, TASK, 0x2002_0001, 0x3000_0001, END], Err((8, 2))),
+    (&[HEAD, TASK, 0x2000_0001, 0x3800_0001, END], Err((8, 3))),
+    (&[HEAD, TASK, 0x2000_0001, 0x3004_0001, END], Err((8, 3))),
+    (&[HEAD, TASK, 0x2000_0001, 0x3200_0001, END], Err((8, 3))),
+    (&[HEAD, TASK, 0x4400_0000, END], Err((8, 2))),
+    (&[HEAD, TASK, 0x4000_0001, END], Err((8, 2))),
+    (&[HEAD, TASK, 0x4002_0000, END], Err((8, 2))),
+    (&[HEAD, TASK, 0x7000_0200, END], Err((8, 2))),
+    (&[HEAD, TASK, 0x7800_0000, END], Err((8, 2))),
+    (&[HEAD, TASK, 0x8004_0000, END], Err((8, 2))),
+    (&[HEAD, TASK, 0x8800_0000, END], Err((8, 2))),
     // A code field beside bit 26.
-    (&[HEAD, TASK, 0x1400_0001, END], 8, 2),
-    (&[HEAD, TASK, 0x6402_0000, END], 8, 2),
-    (&[HEAD, TASK, 0x2000_0001, 0x3400_0002, END], 8, 3),
-    (&[HEAD, TASK, 0x1c02_0000, END], 8, 2),
+    (&[HEAD, TASK, 0x1400_0001, END], Err((8, 2))),
+    (&[HEAD, TASK, 0x6402_0000, END], Err((8, 2))),
+    (&[HEAD, TASK, 0x2000_0001, 0x3400_0002, END], Err((8, 3))),
+    (&[HEAD, TASK, 0x1c02_0000, END], Err((8, 2))),
     // Trigger counts of 0, 9 and 15.
-    (&[HEAD, TASK, 0x2000_0000, END], 8, 2),
+    (&[HEAD, TASK, 0x2000_0000, END], Err((8, 2))),
     (
         &[
             HEAD,
@@ -105,8 +99,7 @@ static OVER_SET: [(&[u32], u32, usize); 142] = [
             0x3000_0008,
             END,
         ],
-        8,
-        2,
+        Err((8, 2)),
     ),
     (
         &[
@@ -130,16 +123,14 @@ static OVER_SET: [(&[u32], u32, usize); 142] = [
             0x3000_000e,
             END,
         ],
-        8,
-        2,
+        Err((8, 2)),
     ),
     // Rows that are too short, or too long.
-    (&[HEAD, TASK, 0x2000_0001, END], 8, 2),
-    (&[HEAD, TASK, 0x2000_0002, 0x3000_0001, END], 8, 2),
+    (&[HEAD, TASK, 0x2000_0001, END], Err((8, 2))),
+    (&[HEAD, TASK, 0x2000_0002, 0x3000_0001, END], Err((8, 2))),
     (
         &[HEAD, TASK, 0x2000_0001, 0x3000_0001, 0x3000_0002, END],
-        8,
-        2,
+        Err((8, 2)),
     ),
     (
         &[
@@ -157,8 +148,7 @@ static OVER_SET: [(&[u32], u32, usize); 142] = [
             0x3000_0008,
             END,
         ],
-        8,
-        2,
+        Err((8, 2)),
     ),
     (
         &[
@@ -170,44 +160,41 @@ static OVER_SET: [(&[u32], u32, usize); 142] = [
             0x3000_0002,
             END,
         ],
-        8,
-        2,
+        Err((8, 2)),
     ),
     (
         &[HEAD, TASK, 0x2000_0001, 0x2000_0001, 0x3000_0001, END],
-        8,
-        2,
+        Err((8, 2)),
     ),
     // A bad row at the end of the program, and rows that run into the end.
-    (&[HEAD, TASK, 0x1000_0001, 0x2000_0002, 0x3000_0001], 8, 3),
-    (&[HEAD, TASK, 0x2000_0001, 0x3000_0001], 8, 4),
-    (&[HEAD, TASK, 0x2000_0008], 8, 2),
-    (&[HEAD, TASK, END, 0x2000_0001], 8, 3),
+    (
+        &[HEAD, TASK, 0x1000_0001, 0x2000_0002, 0x3000_0001],
+        Err((8, 3)),
+    ),
+    (&[HEAD, TASK, 0x2000_0001, 0x3000_0001], Err((8, 4))),
+    (&[HEAD, TASK, 0x2000_0008], Err((8, 2))),
+    (&[HEAD, TASK, END, 0x2000_0001], Err((8, 3))),
     // A TRIG that no GET counts: first in the code, behind an instruction, at the end.
-    (&[HEAD, TASK, 0x3000_0001, END], 8, 2),
-    (&[HEAD, TASK, 0x1000_0001, 0x3000_0001, END], 8, 3),
-    (&[HEAD, TASK, END, 0x3000_0001], 8, 3),
+    (&[HEAD, TASK, 0x3000_0001, END], Err((8, 2))),
+    (&[HEAD, TASK, 0x1000_0001, 0x3000_0001, END], Err((8, 3))),
+    (&[HEAD, TASK, END, 0x3000_0001], Err((8, 3))),
     (
         &[HEAD, TASK, END, 0x3000_0001, 0x2000_0001, 0x3000_0001, END],
-        8,
-        3,
+        Err((8, 3)),
     ),
-    (&[HEAD, TASK, 0x3000_0001, 0x3000_0002, END], 8, 2),
+    (&[HEAD, TASK, 0x3000_0001, 0x3000_0002, END], Err((8, 2))),
     (
         &[HEAD, TASK, 0x2000_0001, 0x3000_0001, END, 0x3000_0001, END],
-        8,
-        5,
+        Err((8, 5)),
     ),
     // A TRIG from R that is not alone.
     (
         &[HEAD, TASK, 0x2000_0002, 0x3400_0000, 0x3000_0001, END],
-        8,
-        2,
+        Err((8, 2)),
     ),
     (
         &[HEAD, TASK, 0x2000_0002, 0x3000_0001, 0x3400_0000, END],
-        8,
-        2,
+        Err((8, 2)),
     ),
     (
         &[
@@ -219,47 +206,49 @@ static OVER_SET: [(&[u32], u32, usize); 142] = [
             0x3400_0000,
             END,
         ],
-        8,
-        2,
+        Err((8, 2)),
     ),
     (
         &[HEAD, TASK, 0x2000_0002, 0x3000_0001, 0x3400_0003, END],
-        8,
-        2,
+        Err((8, 2)),
     ),
     // The last word is no END.
-    (&[HEAD, TASK, 0x1000_0001], 8, 3),
-    (&[HEAD, TASK, END, 0x8000_0003], 8, 4),
-    (&[HEAD, TASK, 0x2000_0001, 0x3000_0001, 0x4000_0000], 8, 5),
-    (&[HEAD, TASK, 0x5000_0002], 8, 3),
+    (&[HEAD, TASK, 0x1000_0001], Err((8, 3))),
+    (&[HEAD, TASK, END, 0x8000_0003], Err((8, 4))),
+    (
+        &[HEAD, TASK, 0x2000_0001, 0x3000_0001, 0x4000_0000],
+        Err((8, 5)),
+    ),
+    (&[HEAD, TASK, 0x5000_0002], Err((8, 3))),
     // Entries at HEAD, at TASK, at TRIG, past the end.
-    (&[HEAD, 0xe800_0000, END], 9, 1),
-    (&[HEAD, 0xe800_4000, END], 9, 1),
-    (&[HEAD, 0xe800_c000, 0x2000_0001, 0x3000_0001, END], 9, 1),
-    (&[HEAD, 0xe800_c000, END], 9, 1),
-    (&[HEAD, 0xefff_c000, END], 9, 1),
-    (&[0xf010_0402, 0xe800_c000, TASK, END], 9, 2),
-    (&[0xf010_0402, 0xe800_c000, 0xe001_0000, END], 9, 2),
+    (&[HEAD, 0xe800_0000, END], Err((9, 1))),
+    (&[HEAD, 0xe800_4000, END], Err((9, 1))),
+    (
+        &[HEAD, 0xe800_c000, 0x2000_0001, 0x3000_0001, END],
+        Err((9, 1)),
+    ),
+    (&[HEAD, 0xe800_c000, END], Err((9, 1))),
+    (&[HEAD, 0xefff_c000, END], Err((9, 1))),
+    (&[0xf010_0402, 0xe800_c000, TASK, END], Err((9, 2))),
+    (&[0xf010_0402, 0xe800_c000, 0xe001_0000, END], Err((9, 2))),
     // Places of IF and of LOOP.
-    (&[HEAD, TASK, 0x5000_0000, END], 9, 2),
-    (&[HEAD, TASK, 0x5000_2001, END], 9, 2),
-    (&[HEAD, TASK, 0x5fff_e004, END], 9, 2),
+    (&[HEAD, TASK, 0x5000_0000, END], Err((9, 2))),
+    (&[HEAD, TASK, 0x5000_2001, END], Err((9, 2))),
+    (&[HEAD, TASK, 0x5fff_e004, END], Err((9, 2))),
     (
         &[HEAD, TASK, 0x5000_2004, 0x2000_0001, 0x3000_0001, END],
-        9,
-        2,
+        Err((9, 2)),
     ),
-    (&[HEAD, TASK, 0x9000_0000, END], 9, 2),
-    (&[HEAD, TASK, 0x9001_2001, END], 9, 2),
-    (&[HEAD, TASK, 0x9001_3fff, END], 9, 2),
+    (&[HEAD, TASK, 0x9000_0000, END], Err((9, 2))),
+    (&[HEAD, TASK, 0x9001_2001, END], Err((9, 2))),
+    (&[HEAD, TASK, 0x9001_3fff, END], Err((9, 2))),
     (
         &[HEAD, TASK, 0x9000_2004, 0x2000_0001, 0x3000_0001, END],
-        9,
-        2,
+        Err((9, 2)),
     ),
     // Tasks of START.
-    (&[HEAD, TASK, 0x7000_0001, END], 9, 2),
-    (&[HEAD, TASK, 0x7000_01ff, END], 9, 2),
+    (&[HEAD, TASK, 0x7000_0001, END], Err((9, 2))),
+    (&[HEAD, TASK, 0x7000_01ff, END], Err((9, 2))),
     (
         &[
             0xf010_0402,
@@ -269,25 +258,29 @@ static OVER_SET: [(&[u32], u32, usize); 142] = [
             0x7000_0002,
             END,
         ],
-        9,
-        4,
+        Err((9, 4)),
     ),
     // Cells that are not there.
-    (&[HEAD, TASK, 0x1004_0001, END], 9, 2),
-    (&[HEAD, TASK, 0x63fc_0001, END], 9, 2),
-    (&[HEAD, TASK, 0x2004_0001, 0x3000_0001, END], 9, 2),
-    (&[HEAD, TASK, 0x4004_0000, END], 9, 2),
+    (&[HEAD, TASK, 0x1004_0001, END], Err((9, 2))),
+    (&[HEAD, TASK, 0x63fc_0001, END], Err((9, 2))),
+    (&[HEAD, TASK, 0x2004_0001, 0x3000_0001, END], Err((9, 2))),
+    (&[HEAD, TASK, 0x4004_0000, END], Err((9, 2))),
     (
         &[0xf014_0001, TASK, 0x43fc_0000, END, 0x13fc_0001, END],
-        0,
-        0,
+        Ok(()),
     ),
-    (&[0xf013_fc01, TASK, 0x43fc_0000, END], 9, 2),
-    (&[0xf010_0801, TASK, 0x1008_0001, END], 9, 2),
-    (&[0xf010_0801, TASK, 0x6004_0001, 0x6008_0001, END], 9, 3),
-    (&[0xf010_0c01, TASK, 0x200c_0001, 0x3400_0000, END], 9, 2),
+    (&[0xf013_fc01, TASK, 0x43fc_0000, END], Err((9, 2))),
+    (&[0xf010_0801, TASK, 0x1008_0001, END], Err((9, 2))),
+    (
+        &[0xf010_0801, TASK, 0x6004_0001, 0x6008_0001, END],
+        Err((9, 3)),
+    ),
+    (
+        &[0xf010_0c01, TASK, 0x200c_0001, 0x3400_0000, END],
+        Err((9, 2)),
+    ),
     // A cell that R is added to, and a code from R, are looked at when they are met.
-    (&[HEAD, TASK, 0x1bfc_0001, END], 0, 0),
+    (&[HEAD, TASK, 0x1bfc_0001, END], Ok(())),
     (
         &[
             HEAD,
@@ -298,33 +291,32 @@ static OVER_SET: [(&[u32], u32, usize); 142] = [
             0x3400_0000,
             END,
         ],
-        0,
-        0,
+        Ok(()),
     ),
     // Codes that are not admitted, in PUT, HAS and TRIG.
-    (&[HEAD, TASK, 0x1000_0100, END], 10, 2),
-    (&[HEAD, TASK, 0x1000_00ff, 0x1003_ffff, END], 10, 3),
-    (&[HEAD, TASK, 0x1bfc_0100, END], 10, 2),
-    (&[HEAD, TASK, 0x6000_0100, END], 10, 2),
-    (&[HEAD, TASK, END, 0x6003_ffff, END], 10, 3),
-    (&[HEAD, TASK, 0x6000_0000, 0x6000_012c, END], 10, 3),
-    (&[HEAD, TASK, 0x2000_0001, 0x3000_0100, END], 10, 3),
+    (&[HEAD, TASK, 0x1000_0100, END], Err((10, 2))),
+    (&[HEAD, TASK, 0x1000_00ff, 0x1003_ffff, END], Err((10, 3))),
+    (&[HEAD, TASK, 0x1bfc_0100, END], Err((10, 2))),
+    (&[HEAD, TASK, 0x6000_0100, END], Err((10, 2))),
+    (&[HEAD, TASK, END, 0x6003_ffff, END], Err((10, 3))),
+    (&[HEAD, TASK, 0x6000_0000, 0x6000_012c, END], Err((10, 3))),
+    (&[HEAD, TASK, 0x2000_0001, 0x3000_0100, END], Err((10, 3))),
     (
         &[HEAD, TASK, 0x2000_0002, 0x3000_0001, 0x3000_0100, END],
-        10,
-        4,
+        Err((10, 4)),
     ),
-    (&[HEAD, TASK, END, 0x2000_0001, 0x3003_ffff, END], 10, 4),
+    (
+        &[HEAD, TASK, END, 0x2000_0001, 0x3003_ffff, END],
+        Err((10, 4)),
+    ),
     // Two triggers that do not clash.
     (
         &[HEAD, TASK, 0x2000_0002, 0x3000_0007, 0x3000_0008, END],
-        11,
-        2,
+        Err((11, 2)),
     ),
     (
         &[HEAD, TASK, 0x2000_0002, 0x3000_0007, 0x3000_0007, END],
-        11,
-        2,
+        Err((11, 2)),
     ),
     (
         &[
@@ -341,8 +333,7 @@ static OVER_SET: [(&[u32], u32, usize); 142] = [
             0x3000_0007,
             END,
         ],
-        11,
-        2,
+        Err((11, 2)),
     ),
     (
         &[
@@ -355,16 +346,18 @@ static OVER_SET: [(&[u32], u32, usize); 142] = [
             0x3000_0008,
             END,
         ],
-        11,
-        4,
+        Err((11, 4)),
     ),
     // Several rules at once: the lower number comes first, wherever it stands.
-    (&[0xf020_0001, END], 5, 0),
-    (&[0xf020_0401, END], 6, 0),
-    (&[HEAD, END, 0xf000_0000], 7, 1),
-    (&[HEAD, END, 0x3000_0001], 7, 1),
-    (&[HEAD, 0xe800_0000, 0x1024_012c, 0xa000_0000, END], 8, 3),
-    (&[HEAD, TASK, 0x1000_012c, 0x1004_0001, END], 9, 3),
+    (&[0xf020_0001, END], Err((5, 0))),
+    (&[0xf020_0401, END], Err((6, 0))),
+    (&[HEAD, END, 0xf000_0000], Err((7, 1))),
+    (&[HEAD, END, 0x3000_0001], Err((7, 1))),
+    (
+        &[HEAD, 0xe800_0000, 0x1024_012c, 0xa000_0000, END],
+        Err((8, 3)),
+    ),
+    (&[HEAD, TASK, 0x1000_012c, 0x1004_0001, END], Err((9, 3))),
     (
         &[
             HEAD,
@@ -375,8 +368,7 @@ static OVER_SET: [(&[u32], u32, usize); 142] = [
             0x1000_012c,
             END,
         ],
-        10,
-        5,
+        Err((10, 5)),
     ),
     (
         &[
@@ -387,8 +379,7 @@ static OVER_SET: [(&[u32], u32, usize); 142] = [
             0x3000_012c,
             END,
         ],
-        9,
-        1,
+        Err((9, 1)),
     ),
     (
         &[
@@ -399,13 +390,12 @@ static OVER_SET: [(&[u32], u32, usize); 142] = [
             0x3000_0002,
             0x1000_0001,
         ],
-        8,
-        6,
+        Err((8, 6)),
     ),
     // The same rule twice: the first place.
-    (&[HEAD, TASK, 0x1004_0001, 0x1008_0001, END], 9, 2),
-    (&[HEAD, TASK, 0x0000_0001, 0x0000_0002, END], 8, 2),
-    (&[HEAD, TASK, 0x1000_0100, 0x1000_0101, END], 10, 2),
+    (&[HEAD, TASK, 0x1004_0001, 0x1008_0001, END], Err((9, 2))),
+    (&[HEAD, TASK, 0x0000_0001, 0x0000_0002, END], Err((8, 2))),
+    (&[HEAD, TASK, 0x1000_0100, 0x1000_0101, END], Err((10, 2))),
     (
         &[
             HEAD,
@@ -418,16 +408,15 @@ static OVER_SET: [(&[u32], u32, usize); 142] = [
             0x3000_0002,
             END,
         ],
-        11,
-        2,
+        Err((11, 2)),
     ),
-    (&[0xf010_0402, END, END, END], 7, 1),
-    (&[0xf010_0402, 0xe800_0000, 0xe800_4000, END], 9, 1),
+    (&[0xf010_0402, END, END, END], Err((7, 1))),
+    (&[0xf010_0402, 0xe800_0000, 0xe800_4000, END], Err((9, 1))),
     // Programs that break none.
-    (&[HEAD, TASK, END], 0, 0),
-    (&[HEAD, 0xe000_ffff, END, END], 0, 0),
-    (&[HEAD, TASK, 0x2000_0001, 0x3000_00ff, END], 0, 0),
-    (&[HEAD, TASK, 0x2000_0001, 0x3400_0000, END], 0, 0),
+    (&[HEAD, TASK, END], Ok(())),
+    (&[HEAD, 0xe000_ffff, END, END], Ok(())),
+    (&[HEAD, TASK, 0x2000_0001, 0x3000_00ff, END], Ok(())),
+    (&[HEAD, TASK, 0x2000_0001, 0x3400_0000, END], Ok(())),
     (
         &[
             HEAD,
@@ -441,19 +430,17 @@ static OVER_SET: [(&[u32], u32, usize); 142] = [
             0x6000_00ff,
             END,
         ],
-        0,
-        0,
+        Ok(()),
     ),
 ];
 
-static OVER_ONCE: [(&[u32], u32, usize); 14] = [
+static OVER_ONCE: [(&[u32], Verdict); 14] = [
     // No word.
-    (&[], 4, 0),
+    (&[], Err((4, 0))),
     // Two triggers that do not clash: one twice, among others, at the ends of the row.
     (
         &[ONCE_HEAD, TASK, 0x2000_0002, 0x3000_0007, 0x3000_0007, END],
-        11,
-        2,
+        Err((11, 2)),
     ),
     (
         &[
@@ -465,8 +452,7 @@ static OVER_ONCE: [(&[u32], u32, usize); 14] = [
             0x3000_0007,
             END,
         ],
-        11,
-        2,
+        Err((11, 2)),
     ),
     (
         &[
@@ -483,8 +469,7 @@ static OVER_ONCE: [(&[u32], u32, usize); 14] = [
             0x3000_0001,
             END,
         ],
-        11,
-        2,
+        Err((11, 2)),
     ),
     (
         &[
@@ -501,8 +486,7 @@ static OVER_ONCE: [(&[u32], u32, usize); 14] = [
             0x3000_0007,
             END,
         ],
-        11,
-        2,
+        Err((11, 2)),
     ),
     (
         &[
@@ -516,24 +500,21 @@ static OVER_ONCE: [(&[u32], u32, usize); 14] = [
             0x3000_0003,
             END,
         ],
-        11,
-        5,
+        Err((11, 5)),
     ),
     // Set's label, and codes that Set does not admit.
-    (&[HEAD, TASK, END], 6, 0),
-    (&[ONCE_HEAD, TASK, 0x1001_0000, END], 10, 2),
+    (&[HEAD, TASK, END], Err((6, 0))),
+    (&[ONCE_HEAD, TASK, 0x1001_0000, END], Err((10, 2))),
     (
         &[ONCE_HEAD, TASK, 0x2000_0002, 0x3000_0007, 0x3001_0000, END],
-        10,
-        4,
+        Err((10, 4)),
     ),
-    (&[ONCE_HEAD, TASK, 0x6003_ffff, END], 10, 2),
-    (&[ONCE_HEAD, TASK, 0x1000_ffff, END], 0, 0),
+    (&[ONCE_HEAD, TASK, 0x6003_ffff, END], Err((10, 2))),
+    (&[ONCE_HEAD, TASK, 0x1000_ffff, END], Ok(())),
     // Programs that break none.
     (
         &[ONCE_HEAD, TASK, 0x2000_0002, 0x3000_0007, 0x3000_0008, END],
-        0,
-        0,
+        Ok(()),
     ),
     (
         &[
@@ -550,27 +531,23 @@ static OVER_ONCE: [(&[u32], u32, usize); 14] = [
             0x3000_0007,
             END,
         ],
-        0,
-        0,
+        Ok(()),
     ),
-    (&[ONCE_HEAD, TASK, 0x2000_0001, 0x3400_0000, END], 0, 0),
+    (&[ONCE_HEAD, TASK, 0x2000_0001, 0x3400_0000, END], Ok(())),
 ];
 
-// The number and the place of a program's refusal, or 0 and 0.
-fn judgement<L: Lattice + Drop>(words: &[u32]) -> (u32, usize) {
-    match rules::check::<L>(words) {
-        Ok(_) => (0, 0),
-        Err(refusal) => (refusal.rule.number(), refusal.place),
-    }
+fn judgement<L: Lattice + Drop>(words: &[u32]) -> Verdict {
+    check::<L>(words).map_err(|refusal| (refusal.rule.number(), refusal.place))?;
+    Ok(())
 }
 
-fn expect_judgement<L: Lattice + Drop>(rt: &impl Abort, words: &[u32], number: u32, place: usize) {
-    assert_eq!(rt; judgement::<L>(words), (number, place));
+fn expect_judgement<L: Lattice + Drop>(rt: &impl Abort, words: &[u32], verdict: Verdict) {
+    assert_eq!(rt; judgement::<L>(words), verdict);
 }
 
-fn expect_judgements<L: Lattice + Drop>(rt: &impl Abort, rows: &[(&[u32], u32, usize)]) {
-    for (at, (words, number, place)) in rows.iter().enumerate() {
-        assert_eq!(rt; judgement::<L>(words), (*number, *place), "row {at}");
+fn expect_judgements<L: Lattice + Drop>(rt: &impl Abort, rows: &[(&[u32], Verdict)]) {
+    for (at, (words, verdict)) in rows.iter().enumerate() {
+        assert_eq!(rt; judgement::<L>(words), *verdict, "row {at}");
     }
 }
 
@@ -590,24 +567,22 @@ fn long_program(heap: Global, entry: u32, count: usize) -> Result<Vec<u32>, Fail
     let mut words = Vec::new(heap);
     words.push(HEAD)?;
     words.push(0xe800_0000 | (entry & 0x1fff) << 14)?;
-    for _ in 2..count {
-        words.push(END)?;
-    }
+    words.resize(count, END)?;
     Ok(words)
 }
 
 #[test]
 fn programs_are_judged_at_their_limits(rt: HostRuntime) -> Result<(), Fail> {
     let mut words = long_program(rt.alloc(), 8_191, 8_192)?;
-    expect_judgement::<Set>(&rt, &words, 0, 0);
+    expect_judgement::<Set>(&rt, &words, Ok(()));
     words.push(END)?;
-    expect_judgement::<Set>(&rt, &words, 4, 0);
-    expect_judgement::<Once>(&rt, &words, 4, 0);
-    expect_judgement::<Set>(&rt, &long_program(rt.alloc(), 8_191, 8_191)?, 9, 1);
+    expect_judgement::<Set>(&rt, &words, Err((4, 0)));
+    expect_judgement::<Once>(&rt, &words, Err((4, 0)));
+    expect_judgement::<Set>(&rt, &long_program(rt.alloc(), 8_191, 8_191)?, Err((9, 1)));
     // The last word of 8,192 is a LET.
     let mut words = long_program(rt.alloc(), 2, 8_191)?;
     words.push(0x8000_0000)?;
-    expect_judgement::<Set>(&rt, &words, 8, 8_192);
+    expect_judgement::<Set>(&rt, &words, Err((8, 8_192)));
     Ok(())
 }
 
@@ -616,37 +591,28 @@ fn programs_are_judged_at_their_limits(rt: HostRuntime) -> Result<(), Fail> {
 fn counts_are_told(rt: HostRuntime) -> Result<(), Fail> {
     let mut words = Vec::new(rt.alloc());
     words.push(0xf014_0200)?;
-    for _ in 0..512 {
-        words.push(0xe000_0000 | 513 << 14)?;
-    }
-    expect_judgement::<Set>(&rt, &words, 7, 513);
+    words.resize(513, 0xe000_0000 | 513 << 14)?;
+    expect_judgement::<Set>(&rt, &words, Err((7, 513)));
     words.push(END)?;
-    let Ok(counts) = rules::check::<Set>(&words) else {
+    let Ok(counts) = check::<Set>(&words) else {
         return Err(Fail::new("refused"));
     };
     assert_eq!(rt; (counts.cells, counts.tasks), (256, 512));
     // START of the last task.
     words.push(0x7000_01ff)?;
     words.push(END)?;
-    expect_judgement::<Set>(&rt, &words, 0, 0);
+    expect_judgement::<Set>(&rt, &words, Ok(()));
     Ok(())
 }
 
-type Two = Both<Versions, Versions>;
-
-type Four = Both<Two, Two>;
-
-// 64 words, and the label 64.
-type Full = Both<Four, Four>;
-
 #[test]
 fn wide_lattices_are_refused(rt: HostRuntime) {
-    expect_judgement::<Full>(&rt, &[0xf400_0401, TASK, END], 0, 0);
-    expect_judgement::<Full>(&rt, &[0xf600_0401, TASK, END], 6, 0);
+    expect_judgement::<Full>(&rt, &[0xf400_0401, TASK, END], Ok(()));
+    expect_judgement::<Full>(&rt, &[0xf600_0401, TASK, END], Err((6, 0)));
     // Lift over it has the label 96, and 65 words.
-    expect_judgement::<Lift<Full>>(&rt, &[0xf600_0401, TASK, END], 6, 0);
-    expect_judgement::<Lift<Full>>(&rt, &[0xf600_0001, TASK, END], 5, 0);
-    expect_judgement::<Lift<Lift<Full>>>(&rt, &[0xf800_0401, TASK, END], 6, 0);
-    expect_judgement::<Both<Lift<Full>, Lift<Full>>>(&rt, &[0xf400_0401, TASK, END], 6, 0);
-    expect_judgement::<Lift<Set>>(&rt, &[0xf210_0401, TASK, END], 0, 0);
+    expect_judgement::<Lift<Full>>(&rt, &[0xf600_0401, TASK, END], Err((6, 0)));
+    expect_judgement::<Lift<Full>>(&rt, &[0xf600_0001, TASK, END], Err((5, 0)));
+    expect_judgement::<Lift<Lift<Full>>>(&rt, &[0xf800_0401, TASK, END], Err((6, 0)));
+    expect_judgement::<Both<Lift<Full>, Lift<Full>>>(&rt, &[0xf400_0401, TASK, END], Err((6, 0)));
+    expect_judgement::<Lift<Set>>(&rt, &[0xf210_0401, TASK, END], Ok(()));
 }

@@ -1,5 +1,4 @@
 // What a text is to give, held to what the reader gives.
-use std::alloc::Global;
 use std::process::Abort;
 use std::test::Fail;
 use text::read;
@@ -7,49 +6,39 @@ use text::read;
 // What each word of a buffer is before a text is read into it.
 const MARK: u32 = 0xdead_beef;
 
-// A buffer of `room` words has the text refused, and is left as it was. `what` is told where that fails.
+// A buffer of `room` words has the text refused, with this number and line, and is left as it was. `what` is told where that fails.
 pub(crate) fn expect_refusal(
-    rt: &impl Abort,
-    heap: Global,
+    rt: &(impl Abort + AllocGlobal),
     text: &[u8],
     room: usize,
-    number: u32,
-    line: usize,
+    refused: (u32, usize),
     what: &str,
 ) -> Result<(), Fail> {
-    let mut words = vec![in heap; MARK; room]?;
-    let answer = match read(text, &mut words) {
-        Ok(_) => (0, 0),
-        Err(refusal) => (refusal.cause.number(), refusal.line),
-    };
-    assert_eq!(rt; answer, (number, line), "{what}");
+    let mut words = vec![in rt.alloc(); MARK; room]?;
+    let answer = read(text, &mut words).map_err(|refusal| (refusal.cause.number(), refusal.line));
+    assert_eq!(rt; answer, Err(refused), "{what}");
     expect_marks(rt, &words, what);
     Ok(())
 }
 
 // A buffer of `room` words has the words of the text in front, and the rest of it is left as it was.
 pub(crate) fn expect_words(
-    rt: &impl Abort,
-    heap: Global,
+    rt: &(impl Abort + AllocGlobal),
     text: &[u8],
     room: usize,
     expected: &[u32],
 ) -> Result<(), Fail> {
-    let mut words = vec![in heap; MARK; room]?;
+    let mut words = vec![in rt.alloc(); MARK; room]?;
     let Ok(count) = read(text, &mut words) else {
         return Err(Fail::new("the text was refused"));
     };
-    assert_eq!(rt; count, expected.len());
     assert!(rt; count <= words.len());
-    for (at, (word, wanted)) in words.iter().zip(expected).enumerate() {
-        assert_eq!(rt; *word, *wanted, "word {at}");
-    }
-    expect_marks(rt, &words[count..], "behind the words");
+    let (front, rest) = words.split_at(count);
+    assert_eq!(rt; front, expected);
+    expect_marks(rt, rest, "behind the words");
     Ok(())
 }
 
 fn expect_marks(rt: &impl Abort, words: &[u32], what: &str) {
-    for word in words {
-        assert_eq!(rt; *word, MARK, "{what}");
-    }
+    assert!(rt; words.iter().all(|word| *word == MARK), "{what}");
 }

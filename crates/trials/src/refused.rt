@@ -1,7 +1,6 @@
 // Texts that are refused: each row ends with the number of the refusal and its line.
 use crate::accepted::EXAMPLE;
 use crate::expect::expect_refusal;
-use std::alloc::Global;
 use std::process::Abort;
 use std::test::Fail;
 
@@ -300,37 +299,28 @@ static SHORT: [(&str, usize, u32, usize); 21] = [
 
 // Each row is refused behind the lines `before`.
 fn expect_refusals(
-    rt: &impl Abort,
-    heap: Global,
+    rt: &(impl Abort + AllocGlobal),
     before: &str,
     rows: &[(&str, u32, usize)],
 ) -> Result<(), Fail> {
     for (rest, number, line) in rows {
-        let text = format!(in heap; "{before}{rest}")?;
-        expect_refusal(rt, heap, text.as_bytes(), 64, *number, *line, *rest)?;
+        let text = format!(in rt.alloc(); "{before}{rest}")?;
+        expect_refusal(rt, text.as_bytes(), 64, (*number, *line), *rest)?;
     }
     Ok(())
 }
 
 #[test]
 fn damaged_texts_are_refused(rt: HostRuntime) -> Result<(), Fail> {
-    expect_refusals(&rt, rt.alloc(), "", &TEXTS)?;
-    expect_refusals(&rt, rt.alloc(), "lattice 1 cells 1 tasks 1\n", &TASK_LINES)?;
-    expect_refusals(&rt, rt.alloc(), "lattice 1 cells 1 tasks 0\n", &CODE)
+    expect_refusals(&rt, "", &TEXTS)?;
+    expect_refusals(&rt, "lattice 1 cells 1 tasks 1\n", &TASK_LINES)?;
+    expect_refusals(&rt, "lattice 1 cells 1 tasks 0\n", &CODE)
 }
 
 #[test]
 fn short_buffers_are_refused(rt: HostRuntime) -> Result<(), Fail> {
     for (text, room, number, line) in &SHORT {
-        expect_refusal(
-            &rt,
-            rt.alloc(),
-            text.as_bytes(),
-            *room,
-            *number,
-            *line,
-            *text,
-        )?;
+        expect_refusal(&rt, text.as_bytes(), *room, (*number, *line), *text)?;
     }
     Ok(())
 }

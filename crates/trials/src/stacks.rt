@@ -11,7 +11,7 @@ use std::process::Abort;
 use std::test::Fail;
 use versions::Versions;
 
-// Three numbers, in each of their orders.
+// Three numbers, in each of their orders, written out since std makes no permutations.
 fn orders(numbers: [u32; 3]) -> [[u32; 3]; 6] {
     let [a, b, c] = numbers;
     [
@@ -25,13 +25,8 @@ fn orders(numbers: [u32; 3]) -> [[u32; 3]; 6] {
 }
 
 // What three codes come to.
-fn gathered<L: Lattice + Drop>(numbers: &[u32; 3]) -> Option<L> {
-    let codes = [
-        Bits::low(numbers[0]),
-        Bits::low(numbers[1]),
-        Bits::low(numbers[2]),
-    ];
-    gather(&codes)
+fn gathered<L: Lattice + Drop>(numbers: [u32; 3]) -> Option<L> {
+    gather(&numbers.map(Bits::low))
 }
 
 // Three codes come to a value with these words, in each order.
@@ -41,7 +36,7 @@ fn expect_join<L: Lattice + Drop>(
     words: &[u32],
 ) -> Result<(), Fail> {
     assert_eq!(rt; L::width() as usize, words.len());
-    for order in orders(numbers).iter() {
+    for order in orders(numbers) {
         let Some(value) = gathered::<L>(order) else {
             return Err(Fail::new("they clash"));
         };
@@ -51,16 +46,14 @@ fn expect_join<L: Lattice + Drop>(
 }
 
 fn expect_words<L: Lattice>(rt: &impl Abort, value: &L, words: &[u32]) {
-    let mut i: u8 = 0;
-    for word in words {
+    for (i, word) in (0..L::width()).zip(words) {
         assert_eq!(rt; value.word(i), *word, "word {i}");
-        i = i.saturating_add(1);
     }
 }
 
 // Three codes clash, in each order.
 fn expect_clash<L: Lattice + Drop>(rt: &impl Abort, numbers: [u32; 3]) {
-    for order in orders(numbers).iter() {
+    for order in orders(numbers) {
         assert!(rt; gathered::<L>(order).is_none());
     }
 }

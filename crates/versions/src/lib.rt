@@ -1,7 +1,7 @@
 // Versions: a count from 0 to 32,767 for each of eight slots.
 #![tactic(auto)]
 
-ghost use Rattle.std.specs.Prelude.{◌≡◌, ◌/◌, ◌%◌, nat_le};
+ghost use Rattle.std.specs.Prelude.{◌≡◌, ◌/◌, ◌%◌, nat_le, slice_index_or};
 ghost use Rattle.bits.specs.Fits.{lowest};
 ghost use Rattle.meanings.specs.Versions.{larger as largest, versions_meaning};
 ghost use Rattle.meanings.proofs.VersionsLaws.{versions_laws};
@@ -9,10 +9,11 @@ ghost use Rattle.versions.specs.Means.{counted_by};
 
 use bits::{Bits, Code};
 use lattice::Lattice;
+use std::array;
 
 const SLOTS: usize = 8;
 
-#[derive(Clone, Copy)]
+#[derive(Clone, Copy, Debug, PartialEq, Eq)]
 pub struct Versions {
     counts: [Bits<15>; SLOTS],
 }
@@ -32,17 +33,22 @@ fn count_of(code: Code) -> Bits<15>
 fn larger(first: Bits<15>, second: Bits<15>) -> Bits<15>
     ensures { result ≡ largest first second }
 {
-    if first.get() < second.get() {
-        second
-    } else {
-        first
-    }
+    first.max(second)
 }
 
 fn is_behind(first: Bits<15>, second: Bits<15>) -> bool
     ensures { result ≡ nat_le first.value second.value }
 {
-    first.get() <= second.get()
+    first <= second
+}
+
+impl Versions {
+    // The count of a slot, and 0 past the last.
+    fn count(&self, slot: usize) -> Bits<15>
+        ensures { result ≡ slice_index_or self.now.counts slot (lowest 15 0) }
+    {
+        self.counts.get(slot).copied().unwrap_or(Bits::low(0))
+    }
 }
 
 impl Lattice for Versions {
@@ -72,19 +78,13 @@ impl Lattice for Versions {
         false
     }
 
+    // Set joins its words in such a line too: one function for both would take the closure, and be no shorter.
     fn join(&mut self, other: Versions) {
-        for slot in 0..SLOTS {
-            self.counts[slot] = larger(self.counts[slot], other.counts[slot]);
-        }
+        self.counts = array::from_fn(|slot| larger(self.count(slot), other.count(slot)));
     }
 
     fn is_below(&self, other: &Versions) -> bool {
-        for slot in 0..SLOTS {
-            if !is_behind(self.counts[slot], other.counts[slot]) {
-                return false;
-            }
-        }
-        true
+        (0..SLOTS).all(|slot| is_behind(self.count(slot), other.count(slot)))
     }
 
     fn label() -> u8 {
@@ -96,10 +96,6 @@ impl Lattice for Versions {
     }
 
     fn word(&self, i: u8) -> u32 {
-        if i < 8 {
-            self.counts[i as usize].get()
-        } else {
-            0
-        }
+        self.count(usize::from(i)).get()
     }
 }

@@ -1,5 +1,5 @@
 -- The words of code. Bit 27 moves the cell by register R; bit 26 takes the code from R, beside a code field of 0.
-use Rattle.std.specs.Prelude.{◌≡◌, ℕ, ◌+◌, ◌*◌, ◌^◌, cond, not, ◌&&◌, Some, None, Option, ◌==◌}
+use Rattle.std.specs.Prelude.{ℕ, ◌+◌, ◌*◌, ◌^◌, cond, not, ◌&&◌, Some, None, Option, ◌==◌}
 use Rattle.words.specs.declared.instruction.CellOperand.{CellOperand}
 use Rattle.words.specs.declared.instruction.CellOperand.TheVariants as cell
 use Rattle.words.specs.declared.instruction.CodeOperand.{CodeOperand}
@@ -7,6 +7,7 @@ use Rattle.words.specs.declared.instruction.CodeOperand.TheVariants as code
 use Rattle.words.specs.declared.instruction.Instruction.{Instruction}
 use Rattle.words.specs.declared.instruction.Instruction.TheVariants.{End, Put, Get, Trig, Freeze, If, Has, Start, Let, Loop}
 use Rattle.words.specs.Fields.{field, flag, clear, kind}
+use Rattle.words.specs.ReadBack.{ReadBack}
 
 abbrev pub cell_bits : CellOperand → ℕ
 cell_bits (cell.Fixed c) = c.value * 2 ^ 18
@@ -61,4 +62,4 @@ instruction_in w = of_kind (kind w) w
 
 -- an instruction is read from a word exactly when it is written as that word
 abbrev pub InstructionOf : ℕ → Option Instruction → Type 0
-InstructionOf w o = (i : Instruction) → (o ≡ Some i → instruction_word i ≡ w) × (instruction_word i ≡ w → o ≡ Some i)
+InstructionOf = ReadBack instruction_word

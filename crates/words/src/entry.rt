@@ -1,50 +1,42 @@
 // TASK, a word for each task behind HEAD: whether load starts it, where its code begins, and its argument.
-ghost use Rattle.std.specs.Prelude.{◌≡◌, Some};
-ghost use Rattle.words.specs.Entries.{entry_in, entry_word, EntryOf};
+ghost use Rattle.words.specs.Entries.{entry_in, entry_word};
+ghost use Rattle.words.specs.Inverses.{entry_of};
 
 use crate::Place;
 use crate::fields::{field, flag, kind};
+use crate::kinds::Kind;
+use crate::word::Word;
 use bits::Bits;
 
-#[derive(Clone, Copy)]
+#[derive(Clone, Copy, Debug, PartialEq, Eq)]
 pub struct Entry {
     pub started: bool,
     pub place: Place,
     pub argument: Bits<14>,
 }
 
-impl Entry {
-    pub fn decode(word: u32) -> Option<Entry>
-        ensures is { result ≡ entry_in word }
-        ensures inverse { EntryOf word result }
-    {
-        entry_in(word)
+impl Word for Entry {
+    ghost spelled = { entry_word };
+
+    ghost read = { entry_in };
+
+    ghost inverse = { entry_of };
+
+    fn from_word(word: u32) -> Option<Self> {
+        match kind(word) {
+            Ok(Kind::Task) => Some(Self {
+                started: flag(word, 27),
+                place: field(word, 14),
+                argument: field(word, 0),
+            }),
+            _ => None,
+        }
     }
 
-    pub fn encode(self) -> u32
-        ensures is { result ≡ entry_word self }
-        ensures inverse { entry_in result ≡ Some self }
-    {
-        entry_word(self)
+    fn to_word(self) -> u32 {
+        Kind::Task.bits()
+            + (u32::from(self.started) << 27)
+            + (self.place.get() << 14)
+            + self.argument.get()
     }
-}
-
-fn entry_in(word: u32) -> Option<Entry>
-    ensures { result ≡ entry_in word }
-{
-    match kind(word) {
-        14 => Some(Entry {
-            started: flag(word, 27),
-            place: field(word, 14),
-            argument: field(word, 0),
-        }),
-        _ => None,
-    }
-}
-
-fn entry_word(entry: Entry) -> u32
-    ensures { result ≡ entry_word entry }
-{
-    let started = if entry.started { 1 << 27 } else { 0 };
-    (14 << 28) + started + (entry.place.get() << 14) + entry.argument.get()
 }

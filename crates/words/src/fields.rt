@@ -1,7 +1,9 @@
 // The fields of a word.
 ghost use Rattle.std.specs.Prelude.{◌≡◌, ◌<◌};
-ghost use Rattle.words.specs.Fields.{field as field_of, flag as flag_of, kind as kind_of};
+ghost use Rattle.words.specs.Fields.{clear as clear_of, field as field_of, flag as flag_of, kind as kind_of};
+ghost use Rattle.words.specs.Kinds.{kind_in, told_number};
 
+use crate::kinds::{Kind, UnknownKind};
 use bits::Bits;
 
 // The N bits of a word from bit `low` up.
@@ -20,11 +22,20 @@ pub(crate) fn flag(word: u32, at: u32) -> bool
     field::<1>(word, at).get() == 1
 }
 
-// The kind of a word, whatever the rest of it says.
-pub fn kind(word: u32) -> u32
-    ensures { result ≡ kind_of word }
+// Whether the N bits of a word from bit `low` up are 0.
+pub(crate) fn clear<const N: u32>(word: u32, low: u32) -> bool
+    requires { low < 32 }
+    ensures { result ≡ clear_of low N word }
 {
-    field::<4>(word, 28).get()
+    field::<N>(word, low).get() == 0
+}
+
+// The kind of a word, whatever the rest of it says.
+pub fn kind(word: u32) -> Result<Kind, UnknownKind>
+    ensures is { result ≡ kind_in (kind_of word) }
+    ensures number { told_number result ≡ kind_of word }
+{
+    Kind::try_from(field::<4>(word, 28).get())
 }
 
 // Whether a word that goes by a code takes it from register R, whatever the rest of it says.

@@ -1,48 +1,38 @@
 // HEAD, a program's first word: its lattice's label, and how many cells and tasks it has.
-ghost use Rattle.std.specs.Prelude.{◌≡◌, Some};
-ghost use Rattle.words.specs.Heads.{head_in, head_word, HeadOf};
+ghost use Rattle.words.specs.Heads.{head_in, head_word};
+ghost use Rattle.words.specs.Inverses.{head_of};
 
 use crate::fields::{field, kind};
+use crate::kinds::Kind;
+use crate::word::Word;
 use bits::Bits;
 
-#[derive(Clone, Copy)]
+#[derive(Clone, Copy, Debug, PartialEq, Eq)]
 pub struct Head {
     pub label: Bits<8>,
     pub cells: Bits<10>,
     pub tasks: Bits<10>,
 }
 
-impl Head {
-    pub fn decode(word: u32) -> Option<Head>
-        ensures is { result ≡ head_in word }
-        ensures inverse { HeadOf word result }
-    {
-        head_in(word)
+impl Word for Head {
+    ghost spelled = { head_word };
+
+    ghost read = { head_in };
+
+    ghost inverse = { head_of };
+
+    fn from_word(word: u32) -> Option<Self> {
+        match kind(word) {
+            Ok(Kind::Head) => Some(Self {
+                label: field(word, 20),
+                cells: field(word, 10),
+                tasks: field(word, 0),
+            }),
+            _ => None,
+        }
     }
 
-    pub fn encode(self) -> u32
-        ensures is { result ≡ head_word self }
-        ensures inverse { head_in result ≡ Some self }
-    {
-        head_word(self)
+    fn to_word(self) -> u32 {
+        Kind::Head.bits() + (self.label.get() << 20) + (self.cells.get() << 10) + self.tasks.get()
     }
-}
-
-fn head_in(word: u32) -> Option<Head>
-    ensures { result ≡ head_in word }
-{
-    match kind(word) {
-        15 => Some(Head {
-            label: field(word, 20),
-            cells: field(word, 10),
-            tasks: field(word, 0),
-        }),
-        _ => None,
-    }
-}
-
-fn head_word(head: Head) -> u32
-    ensures { result ≡ head_word head }
-{
-    (15 << 28) + (head.label.get() << 20) + (head.cells.get() << 10) + head.tasks.get()
 }

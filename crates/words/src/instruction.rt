@@ -1,26 +1,29 @@
 // The words of code: an instruction each, and TRIG, which belongs to the GET before it.
-ghost use Rattle.std.specs.Prelude.{◌≡◌, Some};
-ghost use Rattle.words.specs.Instructions.{instruction_in, instruction_word, InstructionOf, cell_in, cell_bits, code_in, code_bits};
+ghost use Rattle.std.specs.Prelude.{◌≡◌};
+ghost use Rattle.words.specs.Inverses.{instruction_of};
+ghost use Rattle.words.specs.Instructions.{instruction_in, instruction_word, cell_in, cell_bits, code_in, code_bits};
 
 use crate::Place;
-use crate::fields::{field, flag, kind};
+use crate::fields::{clear, field, flag, kind};
+use crate::kinds::Kind;
+use crate::word::Word;
 use bits::{Bits, Code};
 
 // Which cell an instruction turns to: the one named, or that one moved by register R.
-#[derive(Clone, Copy)]
+#[derive(Clone, Copy, Debug, PartialEq, Eq)]
 pub enum CellOperand {
     Fixed(Bits<8>),
     Moved(Bits<8>),
 }
 
 // Which code an instruction goes by: the one named, or what register R holds.
-#[derive(Clone, Copy)]
+#[derive(Clone, Copy, Debug, PartialEq, Eq)]
 pub enum CodeOperand {
     Fixed(Code),
     Register,
 }
 
-#[derive(Clone, Copy)]
+#[derive(Clone, Copy, Debug, PartialEq, Eq)]
 pub enum Instruction {
     End,
     Put(CellOperand, CodeOperand),
@@ -34,97 +37,91 @@ pub enum Instruction {
     Loop(Bits<15>, Place),
 }
 
-impl Instruction {
+impl Word for Instruction {
+    ghost spelled = { instruction_word };
+
+    ghost read = { instruction_in };
+
+    ghost inverse = { instruction_of };
+
     // None for a word of another kind, with a spare bit set, or with a code field beside bit 26.
-    pub fn decode(word: u32) -> Option<Instruction>
-        ensures is { result ≡ instruction_in word }
-        ensures inverse { InstructionOf word result }
+    fn from_word(word: u32) -> Option<Self> {
+        match kind(word) {
+            Ok(Kind::End) if clear::<28>(word, 0) => Some(Self::End),
+            Ok(Kind::Put) => Some(Self::Put(CellOperand::of(word), CodeOperand::of(word)?)),
+            Ok(Kind::Get) if clear::<14>(word, 4) && !flag(word, 26) => {
+                Some(Self::Get(CellOperand::of(word), field(word, 0)))
+            }
+            Ok(Kind::Trig) if clear::<8>(word, 18) && !flag(word, 27) => {
+                Some(Self::Trig(CodeOperand::of(word)?))
+            }
+            Ok(Kind::Freeze) if clear::<18>(word, 0) && !flag(word, 26) => {
+                Some(Self::Freeze(CellOperand::of(word)))
+            }
+            Ok(Kind::If) => Some(Self::If(field(word, 13), field(word, 0))),
+            Ok(Kind::Has) => Some(Self::Has(CellOperand::of(word), CodeOperand::of(word)?)),
+            Ok(Kind::Start) if clear::<19>(word, 9) => Some(Self::Start(field(word, 0))),
+            Ok(Kind::Let) if clear::<10>(word, 18) => Some(Self::Let(field(word, 0))),
+            Ok(Kind::Loop) => Some(Self::Loop(field(word, 13), field(word, 0))),
+            _ => None,
+        }
+    }
+
+    fn to_word(self) -> u32 {
+        match self {
+            Self::End => Kind::End.bits(),
+            Self::Put(cell, code) => Kind::Put.bits() + cell.bits() + code.bits(),
+            Self::Get(cell, count) => Kind::Get.bits() + cell.bits() + count.get(),
+            Self::Trig(code) => Kind::Trig.bits() + code.bits(),
+            Self::Freeze(cell) => Kind::Freeze.bits() + cell.bits(),
+            Self::If(number, place) => Kind::If.bits() + (number.get() << 13) + place.get(),
+            Self::Has(cell, code) => Kind::Has.bits() + cell.bits() + code.bits(),
+            Self::Start(task) => Kind::Start.bits() + task.get(),
+            Self::Let(number) => Kind::Let.bits() + number.get(),
+            Self::Loop(number, place) => Kind::Loop.bits() + (number.get() << 13) + place.get(),
+        }
+    }
+}
+
+impl CellOperand {
+    // The cell that a word names, whatever its kind.
+    fn of(word: u32) -> Self
+        ensures { result ≡ cell_in word }
     {
-        instruction_in(word)
+        match field(word, 18) {
+            cell if flag(word, 27) => Self::Moved(cell),
+            cell => Self::Fixed(cell),
+        }
     }
 
-    pub fn encode(self) -> u32
-        ensures is { result ≡ instruction_word self }
-        ensures inverse { instruction_in result ≡ Some self }
+    fn bits(self) -> u32
+        ensures { result ≡ cell_bits self }
     {
-        instruction_word(self)
-    }
-}
-
-fn instruction_in(word: u32) -> Option<Instruction>
-    ensures { result ≡ instruction_in word }
-{
-    match kind(word) {
-        0 if field::<28>(word, 0).get() == 0 => Some(Instruction::End),
-        1 => Some(Instruction::Put(cell_operand(word), code_operand(word)?)),
-        2 if field::<14>(word, 4).get() == 0 && !flag(word, 26) => {
-            Some(Instruction::Get(cell_operand(word), field(word, 0)))
+        match self {
+            Self::Fixed(cell) => cell.get() << 18,
+            Self::Moved(cell) => (1 << 27) + (cell.get() << 18),
         }
-        3 if field::<8>(word, 18).get() == 0 && !flag(word, 27) => {
-            Some(Instruction::Trig(code_operand(word)?))
+    }
+}
+
+impl CodeOperand {
+    // The code that a word goes by, whatever its kind; none where bit 26 is set beside a code field.
+    fn of(word: u32) -> Option<Self>
+        ensures { result ≡ code_in word }
+    {
+        match field::<18>(word, 0) {
+            code if !flag(word, 26) => Some(Self::Fixed(code)),
+            code if code.get() == 0 => Some(Self::Register),
+            _ => None,
         }
-        4 if field::<18>(word, 0).get() == 0 && !flag(word, 26) => {
-            Some(Instruction::Freeze(cell_operand(word)))
+    }
+
+    fn bits(self) -> u32
+        ensures { result ≡ code_bits self }
+    {
+        match self {
+            Self::Fixed(code) => code.get(),
+            Self::Register => 1 << 26,
         }
-        5 => Some(Instruction::If(field(word, 13), field(word, 0))),
-        6 => Some(Instruction::Has(cell_operand(word), code_operand(word)?)),
-        7 if field::<19>(word, 9).get() == 0 => Some(Instruction::Start(field(word, 0))),
-        8 if field::<10>(word, 18).get() == 0 => Some(Instruction::Let(field(word, 0))),
-        9 => Some(Instruction::Loop(field(word, 13), field(word, 0))),
-        _ => None,
-    }
-}
-
-fn instruction_word(instruction: Instruction) -> u32
-    ensures { result ≡ instruction_word instruction }
-{
-    match instruction {
-        Instruction::End => 0,
-        Instruction::Put(cell, code) => (1 << 28) + cell_bits(cell) + code_bits(code),
-        Instruction::Get(cell, count) => (2 << 28) + cell_bits(cell) + count.get(),
-        Instruction::Trig(code) => (3 << 28) + code_bits(code),
-        Instruction::Freeze(cell) => (4 << 28) + cell_bits(cell),
-        Instruction::If(number, place) => (5 << 28) + (number.get() << 13) + place.get(),
-        Instruction::Has(cell, code) => (6 << 28) + cell_bits(cell) + code_bits(code),
-        Instruction::Start(task) => (7 << 28) + task.get(),
-        Instruction::Let(number) => (8 << 28) + number.get(),
-        Instruction::Loop(number, place) => (9 << 28) + (number.get() << 13) + place.get(),
-    }
-}
-
-fn cell_operand(word: u32) -> CellOperand
-    ensures { result ≡ cell_in word }
-{
-    match field(word, 18) {
-        cell if flag(word, 27) => CellOperand::Moved(cell),
-        cell => CellOperand::Fixed(cell),
-    }
-}
-
-fn code_operand(word: u32) -> Option<CodeOperand>
-    ensures { result ≡ code_in word }
-{
-    match field::<18>(word, 0) {
-        code if !flag(word, 26) => Some(CodeOperand::Fixed(code)),
-        code if code.get() == 0 => Some(CodeOperand::Register),
-        _ => None,
-    }
-}
-
-fn cell_bits(cell: CellOperand) -> u32
-    ensures { result ≡ cell_bits cell }
-{
-    match cell {
-        CellOperand::Fixed(cell) => cell.get() << 18,
-        CellOperand::Moved(cell) => (1 << 27) + (cell.get() << 18),
-    }
-}
-
-fn code_bits(code: CodeOperand) -> u32
-    ensures { result ≡ code_bits code }
-{
-    match code {
-        CodeOperand::Fixed(code) => code.get(),
-        CodeOperand::Register => 1 << 26,
     }
 }

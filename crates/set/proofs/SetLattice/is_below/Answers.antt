@@ -1,26 +1,17 @@
-use Rattle.std.proofs.Common.{◌^◌, ◌<◌, get_or, sym, ⊎_elim, rules}
-use Rattle.std.proofs.lemmas.Bool.{cases_Bool, both_ways}
+use Rattle.std.proofs.Common.{◌≡◌, ℕ, ◌^◌, ◌<◌, true, false, get_or, refl, rules}
+use Rattle.std.proofs.lemmas.Bool.{both_ways, false_from_ne_true}
+use Rattle.std.proofs.lemmas.Iterator.{YieldsList-from_range, cases_from_all}
 use Rattle.meanings.specs.Sets.{within}
-use Rattle.meanings.proofs.Slotwise.{passing_none, passing_more}
+use Rattle.meanings.proofs.Slotwise.{all_is}
 use Rattle.set.proofs.Members.{held, inside, held_within, within_held}
 use Rattle.set.proofs.SetLattice.is_below.Goals as goal
 
 pub returns : goal.returns
-returns c = sym (held_within c.args.self.now.words c.args.other.now.words c.loop-i.i c.loop-i-test.false c.loop-i.invariant)
-
-pub loop-i-init : goal.loop-i-init
-loop-i-init c = passing_none 0 inside c.args.self.now.words c.args.other.now.words
-
-pub loop-i-preserved : goal.loop-i-preserved
-loop-i-preserved c = passing_more 0 inside c.args.self.now.words c.args.other.now.words c.loop-i.i c.loop-i.invariant (sym c.if-not-is_within.ensures)
-
-pub returns-then-not-is_within : goal.returns-then-not-is_within
-returns-then-not-is_within c =
+returns c =
     let first = c.args.self.now.words in
     let second = c.args.other.now.words in
-    let i = c.loop-i.i in
-    let small : get_or first i 0 < 2 ^ 32 = search rules in
-    let beside : get_or second i 0 < 2 ^ 32 = search rules in
-    let fails = sym c.if-not-is_within.ensures in
-    ⊎_elim (λ t. absurd (both_ways (inside (get_or first i 0) (get_or second i 0)) fails (within_held first second i c.loop-i-test.true small beside t))) (λ f. sym f)
-    (cases_Bool (within (held first) (held second)))
+    let Fails : ℕ → Type 0 = λ k. (inside (get_or first k 0) (get_or second k 0) ≡ false) × (get_or first k 0 < 2 ^ 32) × (get_or second k 0 < 2 ^ 32) in
+    let found = cases_from_all _ _ c.all.result (λ k. inside (get_or first k 0) (get_or second k 0) ≡ true) Fails c.all.ensures.ran (YieldsList-from_range 0 8 8 refl refl) (λ k q call. ((λ j. (call.met.1.0 j, call.met.1.1 j)), search rules)) (λ k q call. (search rules, search rules, search rules)) in
+    all_is (λ k. inside (get_or first k 0) (get_or second k 0) ≡ true) Fails 8 (within (held first) (held second)) (held_within first second)
+    (λ k small f. false_from_ne_true (within (held first) (held second)) (λ t. both_ways (inside (get_or first k 0) (get_or second k 0)) f.0 (within_held first second k small f.1 f.2 t)))
+    c.all.result found

@@ -1,20 +1,12 @@
-use Rattle.std.proofs.Common.{ℕ, ◌<◌, length, get_or, ap, ◌∙◌, arith, rules}
+use Rattle.std.proofs.Common.{ℕ, get_or, rules}
 use lib.Bits.{bit_or}
-use Rattle.meanings.proofs.Slotwise.{merged_none, merged_more}
+use Rattle.meanings.proofs.Slotwise.{made}
 use Rattle.set.proofs.Members.{held_merged}
 use Rattle.set.proofs.SetLattice.join.Goals as goal
 
 pub returns : goal.returns
-returns c = held_merged c.args.self.now.words c.args.other.words c.loop-i.self.words c.loop-i.i c.loop-i-test.false c.loop-i.invariant
-
-pub loop-i-init : goal.loop-i-init
-loop-i-init c = merged_none 0 bit_or c.args.self.now.words c.args.other.words
-
-pub loop-i-preserved : goal.loop-i-preserved
-loop-i-preserved c =
-    let i = c.loop-i.i in
-    let row = c.loop-i.self.words in
-    let other = c.args.other.words in
-    let within : i < length row = search rules in
-    merged_more 0 bit_or c.args.self.now.words other i row c.union.result within c.loop-i.invariant
-    (c.union.ensures ∙ ap (λ (w : ℕ). bit_or w (get_or other i 0)) (c.loop-i.invariant.rest i (omega arith)))
+returns c =
+    let first = c.args.self.now.words in
+    let second = c.args.other.words in
+    let word = λ (k : ℕ). bit_or (get_or first k 0) (get_or second k 0) in
+    held_merged first second c.from_fn-self.result (made _ _ word 8 (λ k x q small call. ((λ j. (call.met.1.0 j, call.met.1.1 j)), search rules)) c.from_fn-self.result 0 c.from_fn-self.ensures.items)

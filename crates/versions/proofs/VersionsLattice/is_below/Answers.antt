@@ -1,40 +1,15 @@
-use Rattle.std.proofs.Common.{◌<◌, leb, length, get_or, sym, ◌∙◌, arith, rules}
-use Rattle.std.proofs.lemmas.List.{get_or_default}
+use Rattle.std.proofs.Common.{◌≡◌, ℕ, true, false, leb, get_or, refl, rules}
+use Rattle.std.proofs.lemmas.Iterator.{YieldsList-from_range, cases_from_all}
+use Rattle.bits.specs.declared.Bits.{Bits}
 use Rattle.bits.specs.Fits.{lowest}
+use Rattle.meanings.specs.Every.{every}
 use Rattle.meanings.proofs.Everywhere.{every_from, every_fails}
-use Rattle.meanings.proofs.Slotwise.{passing_none, passing_more}
+use Rattle.meanings.proofs.Slotwise.{all_is}
 use Rattle.versions.proofs.VersionsLattice.is_below.Goals as goal
 
 pub returns : goal.returns
 returns c =
-    let first = c.args.self.now.counts in
-    let second = c.args.other.now.counts in
-    sym (every_from {n = 3} (λ s. leb (get_or first s.value (lowest 15 0)).value (get_or second s.value (lowest 15 0)).value)
-    (λ s. c.loop-slot.invariant s.value (let small = s.fits in omega (arith, c.loop-slot-test.false))))
-
-pub loop-slot-init : goal.loop-slot-init
-loop-slot-init c = passing_none (lowest 15 0) (λ a b. leb a.value b.value) c.args.self.now.counts c.args.other.now.counts
-
-pub loop-slot-preserved : goal.loop-slot-preserved
-loop-slot-preserved c =
-    let slot = c.loop-slot.slot in
-    let first = c.args.self.now.counts in
-    let second = c.args.other.now.counts in
-    let within : slot < length first = search rules in
-    let beside : slot < length second = search rules in
-    let here = get_or_default first slot (lowest 15 0) c.index-self-slot.result within in
-    let there = get_or_default second slot (lowest 15 0) c.index-other-slot.result beside in
-    passing_more (lowest 15 0) (λ a b. leb a.value b.value) first second slot c.loop-slot.invariant
-    ((λ i. leb (here i).value (there i).value) ∙ sym c.if-not-is_behind.ensures)
-
-pub returns-then-not-is_behind : goal.returns-then-not-is_behind
-returns-then-not-is_behind c =
-    let slot = c.loop-slot.slot in
-    let first = c.args.self.now.counts in
-    let second = c.args.other.now.counts in
-    let within : slot < length first = search rules in
-    let beside : slot < length second = search rules in
-    let here = get_or_default first slot (lowest 15 0) c.index-self-slot.result within in
-    let there = get_or_default second slot (lowest 15 0) c.index-other-slot.result beside in
-    sym (every_fails {n = 3} (λ s. leb (get_or first s.value (lowest 15 0)).value (get_or second s.value (lowest 15 0)).value) (record { value = slot; fits = c.loop-slot-test.true })
-    ((λ i. leb (here i).value (there i).value) ∙ sym c.if-not-is_behind.ensures))
+    let test = λ (k : ℕ). leb (get_or c.args.self.now.counts k (lowest 15 0)).value (get_or c.args.other.now.counts k (lowest 15 0)).value in
+    let each = λ (s : Bits 3). test s.value in
+    let found = cases_from_all _ _ c.all.result (λ k. test k ≡ true) (λ k. test k ≡ false) c.all.ensures.ran (YieldsList-from_range 0 8 8 refl refl) (λ k q call. ((λ j. (call.met.1.0 j, call.met.1.1 j)), search rules)) (λ k q call. search rules) in
+    all_is (λ k. test k ≡ true) (λ k. test k ≡ false) 8 (every 3 each) (λ f. every_from each (λ s. f s.value s.fits)) (λ k small e. every_fails each (record { value = k; fits = small }) e) c.all.result found

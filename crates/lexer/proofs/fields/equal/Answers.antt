@@ -1,7 +1,0 @@
-use Rattle.std.specs.Str.{bytes_eq}
-use Rattle.std.proofs.lemmas.Slice.Eq.{slice_eq-Decides, bytes_eq-Decides}
-use Rattle.std.proofs.lemmas.Bool.Decides.{same_from_decides, Decides-eqb}
-use Rattle.lexer.proofs.fields.equal.Goals as goal
-
-pub returns : goal.returns
-returns c = same_from_decides c.eq.result (bytes_eq c.args.xs.now c.args.ys.now) (slice_eq-Decides Decides-eqb c.args.xs.now c.args.ys.now c.eq.result c.eq.ensures) (bytes_eq-Decides c.args.xs.now c.args.ys.now)
