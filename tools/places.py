@@ -18,7 +18,7 @@ LINES = {
         r'\b\d+ << 2[678]\b',
         r'^\s+\d+( if .*)? => (Some\(|\{)',
         r'\bkind\(word\) ==',
-        r'fn (number|place|kind)\(.*-> (u\d+|usize)',
+        r'fn (number|place|kind|number_and_line)\(.*-> \(?(u\d+|usize)',
         r'^\s+(Nothing|Absent|Missing),$',
     ],
     '3 loops that count by hand': [
@@ -39,7 +39,7 @@ LINES = {
     '6 buffers with a length beside': [
         r'\[u32; 8\]',
         r'^\s+(pub\(crate\) )?count: usize,',
-        r'&words\[0\.\.count\]',
+        r'&words\[(0)?\.\.count\]',
     ],
     '7 switches on which step to run': [
         r'match (self|rule|keyword|section|served)\b',

@@ -23,6 +23,7 @@ impl<const N: u32> Bits<N> {
         Self::trimmed(value)
     }
 
+    // `low` says as one value what this says of its number.
     fn trimmed(value: u32) -> Bits<N>
         ensures { result.value ≡ value % 2 ^ N }
     {
@@ -39,6 +40,7 @@ impl<const N: u32> Bits<N> {
 }
 
 // Whether a number has no more than so many bits.
+#[tactic(auto, using(crate::proofs::Same::held_wide))]
 fn held(value: u32, bits: u32) -> bool
     ensures { result ≡ nat_lt value (2 ^ bits) }
 {
@@ -46,6 +48,7 @@ fn held(value: u32, bits: u32) -> bool
 }
 
 // The lowest bits of a number.
+#[tactic(auto, using(crate::proofs::Same::by_mask, crate::proofs::Same::all_wide))]
 fn masked(value: u32, bits: u32) -> u32
     ensures { result ≡ value % 2 ^ bits }
 {

@@ -27,7 +27,7 @@ type Four = Both<Two, Two>;
 pub type Full = Both<Four, Four>;
 
 // Every row of the table stands: a fact of the meanings, which the lattices' own contracts tie to their code.
-// The body puts most rows to the code as well. A body that only said `true` would meet the second clause, so that is for the run.
+// The body puts most rows to the code as well. A body that only said `true` would meet the second clause, so only a run shows that.
 #[tactic(auto, using(crate::proofs::Table::table_stands))]
 pub fn worked_cases() -> bool
     ensures rows { AllByRecursion Stands table }

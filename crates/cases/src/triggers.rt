@@ -29,7 +29,7 @@ const EIGHT: u32 = 0x3000_0008;
 pub const END: u32 = 0;
 
 // Every program is judged as its row says: a fact of the definitions, which the contract of `check` ties to the code.
-// The body puts the rows to the code as well. A body that only said `true` would meet the second clause, so that is for the run.
+// The body puts the rows to the code as well. A body that only said `true` would meet the second clause, so only a run shows that.
 #[tactic(auto, using(crate::proofs::Programs::programs_judged), unfolding(rulebook::specs::Programs::head_of, rulebook::specs::Programs::entry_at, rulebook::specs::Programs::code_at, rulebook::specs::Programs::run, rulebook::specs::Rules::some_below, rulebook::specs::Judgement::judged_by, rulebook::specs::Judgement::first_broken, rulebook::specs::Judgement::first_from))]
 pub fn trigger_cases() -> bool
     ensures rows { AllByRecursion Judges programs }
@@ -47,6 +47,7 @@ fn accepts<L: Lattice + Drop>(words: &[u32], cells: usize, tasks: usize) -> bool
     check::<L>(words) == Ok(Counts { cells, tasks })
 }
 
+// The table tells refusals by their numbers, so the rows do too.
 fn refuses<L: Lattice + Drop>(words: &[u32], number: u32, place: usize) -> bool
     ensures { result ≡ refused_with number place (judged L.meaning words.now) }
 {

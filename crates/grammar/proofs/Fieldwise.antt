@@ -16,7 +16,7 @@ use Rattle.lexer.specs.Tokens.{Said, word, plain, plus, register, Placed, token_
 use Rattle.lexer.specs.Fields.{Field, stands, field_at, spelt, spelt_by, word_field, kept, only, number_in, cell_in, code_in, number_field, cell_field, code_field}
 use Rattle.lines.specs.Forms.{both, beside, then_by, then, named_by, named}
 use Rattle.grammar.specs.Printed.{printed_number, printed_cell, printed_code}
-use Rattle.bits.proofs.Options.{some_same, none_some}
+use Rattle.bits.proofs.Options.{some_same}
 use Rattle.grammar.proofs.Spelling.{Stops, Wordlike, Proper, spelled, byte_first, token_printed, token_read}
 
 -- fields that are read exactly where they are printed, with what has to stand behind them
@@ -52,7 +52,7 @@ field_read line at p e = go (stands line at 32) refl e
   where
     go : (b : Bool) → stands line at 32 ≡ b → cond b (token_at line (at + 1)) None ≡ Some p → (drop at line ≡ 32 ∷ (spelled p.token ++ drop p.next line)) × (p.next ≡ at + 1 + length (spelled p.token))
     go true s e = let behind = token_read line (at + 1) p e in (stands_byte line at 32 s ∙ ap (λ (l : List ℕ). 32 ∷ l) behind.0, behind.1)
-    go false s e = none_some e
+    go false s e = cc
 
 -- a kind of field, by the tokens that it takes
 pub record Takes {X : Type 0} (f : Said → Option (Option X)) (print : X → List ℕ) : Type 0 where
@@ -63,11 +63,11 @@ pub record Takes {X : Type 0} (f : Said → Option (Option X)) (print : X → Li
   pub only_so : (t : Said) (x : X) → f t ≡ Some (Some x) → t ≡ token x
 
 only_some : {X : Type 0} (f : Said → Option (Option X)) (o : Option Placed) (x : Option X) (next : ℕ) → only f o ≡ Some (x, next) → (p : Placed) × (o ≡ Some p) × (f p.token ≡ Some x) × (p.next ≡ next)
-only_some f None x next e = none_some e
+only_some f None x next e = cc
 only_some f (Some p) x next e = go (f p.token) refl e
   where
     go : (v : Option (Option _)) → f p.token ≡ v → kept p.next v ≡ Some (x, next) → (q : Placed) × (Some p ≡ Some q) × (f q.token ≡ Some x) × (q.next ≡ next)
-    go None is e = none_some e
+    go None is e = cc
     go (Some v) is e = (p, refl, is ∙ ap (λ (q : Option _ × ℕ). Some q.0) (some_same e), ap (λ (q : Option _ × ℕ). q.1) (some_same e))
 
 pub takes_reads : {X : Type 0} (f : Said → Option (Option X)) (print : X → List ℕ) → Takes f print → Reads (λ line at. only f (field_at line at)) print Any Stops
@@ -95,7 +95,7 @@ pub small : {n : ℕ} → n ≤ 18 → (b : Bits n) → b.value < 10 ^ 9
 small {n} le b = let f = b.fits in omega (arith, pow_mono {i = n} {j = 18} le)
 
 mapped_from : {X Y : Type 0} (f : X → Y) (o : Option X) (y : Y) → option_map f o ≡ Some y → (x : X) × (o ≡ Some x) × (f x ≡ y)
-mapped_from f None y e = none_some e
+mapped_from f None y e = cc
 mapped_from f (Some x) y e = (x, refl, some_same e)
 
 number_takes : (n : ℕ) → n ≤ 18 → Takes (number_in n) printed_number
@@ -108,10 +108,10 @@ number_takes n le = record {
 }
   where
     so : (t : Said) (b : Bits n) → number_in n t ≡ Some (Some b) → t ≡ plain b.value
-    so (word w) b e = none_some e
+    so (word w) b e = cc
     so (plain v) b e = ap plain (fitted_from v b (some_same e))
-    so (plus v) b e = none_some e
-    so register b e = none_some e
+    so (plus v) b e = cc
+    so register b e = cc
 
 cell_takes : Takes cell_in printed_cell
 cell_takes = record { token = token; proper = proper; taken = taken; shown = shown; only_so = so }
@@ -133,10 +133,10 @@ cell_takes = record { token = token; proper = proper; taken = taken; shown = sho
     shown (cell.Moved c) = refl
 
     so : (t : Said) (c : CellOperand) → cell_in t ≡ Some (Some c) → t ≡ token c
-    so (word w) c e = none_some e
+    so (word w) c e = cc
     so (plain v) c e = let found = mapped_from cell.Fixed (fitted 8 v) c (some_same e) in ap plain (fitted_from v found.0 found.1) ∙ ap token found.2
     so (plus v) c e = let found = mapped_from cell.Moved (fitted 8 v) c (some_same e) in ap plus (fitted_from v found.0 found.1) ∙ ap token found.2
-    so register c e = none_some e
+    so register c e = cc
 
 code_takes : Takes code_in printed_code
 code_takes = record { token = token; proper = proper; taken = taken; shown = shown; only_so = so }
@@ -158,9 +158,9 @@ code_takes = record { token = token; proper = proper; taken = taken; shown = sho
     shown code.Register = refl
 
     so : (t : Said) (v : CodeOperand) → code_in t ≡ Some (Some v) → t ≡ token v
-    so (word w) v e = none_some e
+    so (word w) v e = cc
     so (plain n) v e = let found = mapped_from code.Fixed (fitted 18 n) v (some_same e) in ap plain (fitted_from n found.0 found.1) ∙ ap token found.2
-    so (plus n) v e = none_some e
+    so (plus n) v e = cc
     so register v e = ap token (some_same (some_same e))
 
 pub number_reads : (n : ℕ) → n ≤ 18 → Reads (number_field n) printed_number Any Stops
@@ -182,12 +182,12 @@ code_stops (code.Fixed v) rest = inl refl
 code_stops code.Register rest = inl refl
 
 both_some : {X Y : Type 0} (x : Option X) (y : Option Y) (p : X × Y) → both x y ≡ Some p → (x ≡ Some p.0) × (y ≡ Some p.1)
-both_some None y p e = none_some e
-both_some (Some x) None p e = none_some e
+both_some None y p e = cc
+both_some (Some x) None p e = cc
 both_some (Some x) (Some y) p e = (ap (λ (q : _ × _). Some q.0) (some_same e), ap (λ (q : _ × _). Some q.1) (some_same e))
 
 beside_some : {X Y : Type 0} (x : Option X) (o : Field Y) (p : X × Y) (next : ℕ) → beside x o ≡ Some (Some p, next) → (x ≡ Some p.0) × (o ≡ Some (Some p.1, next))
-beside_some x None p next e = none_some e
+beside_some x None p next e = cc
 beside_some x (Some q) p next e =
     let parts = both_some x q.0 p (ap (λ (r : Option _ × ℕ). r.0) (some_same e)) in
     (parts.0, (λ i. Some (parts.1 i, ap (λ (r : Option _ × ℕ). r.1) (some_same e) i)))
@@ -214,7 +214,7 @@ module _ {X Y : Type 0} {P : List ℕ → ℕ → Field X} {Q : List ℕ → ℕ
       read line at z next e = go (P line at) refl e
         where
           go : (o : Field X) → P line at ≡ o → then_by Q line o ≡ Some (Some z, next) → (drop at line ≡ (p z.0 ++ q z.1) ++ drop next line) × (next ≡ at + length (p z.0 ++ q z.1)) × (G z.0 × H z.1)
-          go None is e = none_some e
+          go None is e = cc
           go (Some r) is e =
               let x = z.0 in
               let y = z.1 in
@@ -248,17 +248,17 @@ module _ {X : Type 0} {P : List ℕ → ℕ → Field X} {p : X → List ℕ} {G
           ∙ ap (λ (k : ℕ). Some (Some x, k)) n
 
       word_some : (line : List ℕ) (at next : ℕ) (o : Option Placed) → field_at line at ≡ o → spelt_by name o ≡ Some next → (drop at line ≡ (32 ∷ name) ++ drop next line) × (next ≡ at + length (32 ∷ name))
-      word_some line at next None is e = none_some e
+      word_some line at next None is e = cc
       word_some line at next (Some f) is e = go f.token refl e
         where
           go : (t : Said) → f.token ≡ t → spelt name t f.next ≡ Some next → (drop at line ≡ (32 ∷ name) ++ drop next line) × (next ≡ at + length (32 ∷ name))
-          go (plain v) t e = none_some e
-          go (plus v) t e = none_some e
-          go register t e = none_some e
+          go (plain v) t e = cc
+          go (plus v) t e = cc
+          go register t e = cc
           go (word w) t e = by (bytes_eq w name) refl e
             where
               by : (b : Bool) → bytes_eq w name ≡ b → cond b (Some f.next) None ≡ Some next → (drop at line ≡ (32 ∷ name) ++ drop next line) × (next ≡ at + length (32 ∷ name))
-              by false s e = none_some e
+              by false s e = cc
               by true s e =
                   let behind = field_read line at f is in
                   let w_name : f.token ≡ word name = t ∙ ap word ((bytes_eq-Decides w name).0 s) in
@@ -271,7 +271,7 @@ module _ {X : Type 0} {P : List ℕ → ℕ → Field X} {p : X → List ℕ} {G
       read line at x next e = go (word_field name line at) refl e
         where
           go : (o : Option ℕ) → word_field name line at ≡ o → named_by P line o ≡ Some (Some x, next) → (drop at line ≡ ((32 ∷ name) ++ p x) ++ drop next line) × (next ≡ at + length ((32 ∷ name) ++ p x)) × G x
-          go None is e = none_some e
+          go None is e = cc
           go (Some k) is e =
               let first = word_some line at k (field_at line at) refl is in
               let second = one.read line k x next e in (

@@ -12,7 +12,7 @@ use Rattle.lexer.specs.Fields.{Field, stands, ends, word_in, word_by, first_word
 use Rattle.lines.specs.Forms.{then, named, closed, lastly}
 use Rattle.lines.specs.Lines.{inside, head_of, head_fields, head_from, head_line, started_by, number_pair, entry_of, entry_by, entry_from, entry_line}
 use Rattle.grammar.specs.Printed.{printed_number, line_of, printed_head, printed_entry}
-use Rattle.bits.proofs.Options.{some_same, none_some}
+use Rattle.bits.proofs.Options.{some_same}
 use Rattle.grammar.proofs.Spelling.{Stops, Wordlike, wordlike_by, spelled, token_printed, token_read}
 use Rattle.grammar.proofs.Fieldwise.{Reads, Any, stands_at, number_reads, then_reads, named_reads}
 
@@ -33,8 +33,8 @@ ends_there line at e =
         here ∙ (λ i. eqb-true (get_or line at 0) 10 parts.1 i ∷ nil_from_length (drop (at + 1) line) (omega (arith, ap length here)) i)
 
 pub inside_some : {X Y : Type 0} (f : X → Y) (o : Option (Option X)) (y : Y) → inside f o ≡ Some (Some y) → (x : X) × (o ≡ Some (Some x)) × (f x ≡ y)
-inside_some f None y e = none_some e
-inside_some f (Some None) y e = none_some (some_same e)
+inside_some f None y e = cc
+inside_some f (Some None) y e = cc
 inside_some f (Some (Some x)) y e = (x, refl, some_same (some_same e))
 
 -- fields with which a line ends
@@ -48,11 +48,11 @@ module _ {X : Type 0} {P : List ℕ → ℕ → Field X} {p : X → List ℕ} {G
   last_read line at x e = go (P line at) refl e
     where
       go : (o : Field X) → P line at ≡ o → closed line o ≡ Some (Some x) → (drop at line ≡ p x ++ (10 ∷ [])) × G x
-      go None is e = none_some e
+      go None is e = cc
       go (Some q) is e = by (ends line q.1) refl e
         where
           by : (b : Bool) → ends line q.1 ≡ b → cond b (Some q.0) None ≡ Some (Some x) → (drop at line ≡ p x ++ (10 ∷ [])) × G x
-          by false s e = none_some e
+          by false s e = cc
           by true s e =
               let found = one.read line at x q.1 (is ∙ ap (λ (v : Option X). Some (v, q.1)) (some_same e)) in
               (found.0 ∙ ap (λ (l : List ℕ). p x ++ l) (ends_there line q.1 s), found.2)
@@ -65,13 +65,13 @@ pub first_read : (line w : List ℕ) (next : ℕ) → first_word line ≡ Some (
 first_read line w next e = go (token_at line 0) refl e
   where
     go : (o : Option Placed) → token_at line 0 ≡ o → word_by o ≡ Some (w, next) → line ≡ w ++ drop next line
-    go None is e = none_some e
+    go None is e = cc
     go (Some p) is e = by p.token refl e
       where
         by : (t : Said) → p.token ≡ t → word_in t p.next ≡ Some (w, next) → line ≡ w ++ drop next line
-        by (plain v) t e = none_some e
-        by (plus v) t e = none_some e
-        by register t e = none_some e
+        by (plain v) t e = cc
+        by (plus v) t e = cc
+        by register t e = cc
         by (word x) t e =
             let same : x ≡ w = ap (λ (q : List ℕ × ℕ). q.0) (some_same e) in
             let there : p.next ≡ next = ap (λ (q : List ℕ × ℕ). q.1) (some_same e) in
@@ -123,11 +123,11 @@ pub head_read : (line : List ℕ) (h : Head) → head_line line ≡ Some (Some h
 head_read line h e = go (first_word line) refl e
   where
     go : (o : Option (List ℕ × ℕ)) → first_word line ≡ o → head_from line o ≡ Some (Some h) → line ≡ printed_head h
-    go None is e = none_some e
+    go None is e = cc
     go (Some q) is e = by (bytes_eq q.0 (codes "lattice")) refl e
       where
         by : (b : Bool) → bytes_eq q.0 (codes "lattice") ≡ b → cond b (inside head_of (lastly head_fields line q.1)) None ≡ Some (Some h) → line ≡ printed_head h
-        by false s e = none_some e
+        by false s e = cc
         by true s e =
             let found = inside_some head_of (lastly head_fields line q.1) h e in
             (fields_read head_reads line (codes "lattice") q.0 q.1 found.0 is ((bytes_eq-Decides q.0 (codes "lattice")).0 s) found.1).0 ∙ ap printed_head found.2
@@ -160,17 +160,17 @@ started_word w started =
     (λ s e. (bytes_eq-Decides w (codes "task")).0 s ∙ ap (λ (b : Bool). cond b (codes "task") (codes "idle")) (some_same e))
     (λ _. cond_both (bytes_eq w (codes "idle")) _ _ (λ o. o ≡ Some started → w ≡ cond started (codes "task") (codes "idle"))
     (λ s e. (bytes_eq-Decides w (codes "idle")).0 s ∙ ap (λ (b : Bool). cond b (codes "task") (codes "idle")) (some_same e))
-    (λ _ e. none_some e))
+    (λ _ e. cc))
 
 pub entry_read : (line : List ℕ) (t : Entry) → entry_line line ≡ Some (Some t) → line ≡ printed_entry t
 entry_read line t e = go (first_word line) refl e
   where
     go : (o : Option (List ℕ × ℕ)) → first_word line ≡ o → entry_from line o ≡ Some (Some t) → line ≡ printed_entry t
-    go None is e = none_some e
+    go None is e = cc
     go (Some q) is e = by (started_by q.0) refl e
       where
         by : (b : Option Bool) → started_by q.0 ≡ b → entry_by line q.1 b ≡ Some (Some t) → line ≡ printed_entry t
-        by None s e = none_some e
+        by None s e = cc
         by (Some started) s e =
             let found = inside_some (entry_of started) (number_pair 13 14 line q.1) t e in
             (fields_read (pair_reads 13 14 (omega arith) (omega arith)) line (cond started (codes "task") (codes "idle")) q.0 q.1 found.0 is (started_word q.0 started s) found.1).0 ∙ ap printed_entry found.2

@@ -9,7 +9,7 @@ use Rattle.std.proofs.lemmas.Fmt.{digits_decimal, digits_value-decimal, decimal_
 use Rattle.std.proofs.lemmas.List.{take_at, drop-drop, take-append-drop, length-take-le}
 use Rattle.std.proofs.lemmas.Bool.{cond-true, and_parts, leb-true, or_cases, eqb-true, eqb-false, not-true, cases_lt}
 use Rattle.std.proofs.lemmas.Bool.Decides.{nat_tests}
-use Rattle.bits.proofs.Options.{some_same, none_some}
+use Rattle.bits.proofs.Options.{some_same}
 use Rattle.lexer.specs.Numbers.{digits_at, formed, number_by, number_at}
 use Rattle.lexer.proofs.Scans.{own, digit_is, digits_leading, leading_all}
 
@@ -55,7 +55,7 @@ number_read text at v next e = go (formed (length ds) (get_or ds 0 0)) refl e
     lone n z h e = ⊎_elim (λ one. eqb-true n 1 one) (λ other. absurd (eqb-false z 48 (not-true _ other) e)) (or_cases (eqb n 1) (not (eqb z 48)) h)
 
     go : (b : Bool) → formed (length ds) (get_or ds 0 0) ≡ b → cond {A = Option (ℕ × ℕ)} b (Some (digits_value 10 ds, at + length ds)) None ≡ Some (v, next) → (drop at text ≡ decimal v ++ drop next text) × (next ≡ at + length (decimal v)) × (v < 10 ^ 9)
-    go false f e = none_some e
+    go false f e = cc
     go true f e =
         let bs = drop at text in
         let parts = and_parts (leb 1 (length ds)) _ f in

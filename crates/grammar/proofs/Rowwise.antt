@@ -9,7 +9,7 @@ use Rattle.lexer.specs.Fields.{Field, stands, code_field}
 use Rattle.lines.proofs.Rows.{row_next, row_none, row_ends}
 use Rattle.lines.specs.Forms.{ahead, before, firstly, row_at, row}
 use Rattle.grammar.specs.Printed.{printed_code}
-use Rattle.bits.proofs.Options.{some_same, none_some}
+use Rattle.bits.proofs.Options.{some_same}
 use Rattle.grammar.proofs.Spelling.{Stops, byte_first}
 use Rattle.grammar.proofs.Fieldwise.{Reads, stands_at, code_reads, code_stops}
 
@@ -54,12 +54,12 @@ row_printed (suc n) (v ∷ vs) line at rest few e end =
 
 -- what a row was read from
 ahead_some : {X : Type 0} (x : Option X) (xs : Option (List X)) (ys : List X) → ahead x xs ≡ Some ys → (y : X) × (zs : List X) × (x ≡ Some y) × (xs ≡ Some zs) × (ys ≡ y ∷ zs)
-ahead_some None xs ys e = none_some e
-ahead_some (Some x) None ys e = none_some e
+ahead_some None xs ys e = cc
+ahead_some (Some x) None ys e = cc
 ahead_some (Some x) (Some xs) ys e = (x, xs, refl, refl, sym (some_same e))
 
 before_some : {X : Type 0} (x : Option X) (o : Field (List X)) (ys : List X) (next : ℕ) → before x o ≡ Some (Some ys, next) → (y : X) × (zs : List X) × (x ≡ Some y) × (o ≡ Some (Some zs, next)) × (ys ≡ y ∷ zs)
-before_some x None ys next e = none_some e
+before_some x None ys next e = cc
 before_some x (Some q) ys next e =
     let parts = ahead_some x q.0 ys (ap (λ (r : Option (List _) × ℕ). r.0) (some_same e)) in
     (parts.0, parts.1, parts.2, (λ i. Some (parts.3 i, ap (λ (r : Option (List _) × ℕ). r.1) (some_same e) i)), parts.4)
@@ -71,7 +71,7 @@ pub firstly_read : (line : List ℕ) (at next n : ℕ) (vs : List CodeOperand) (
 firstly_read line at next n vs more others e = go (code_field line at) refl e
   where
     go : (o : Field CodeOperand) → code_field line at ≡ o → firstly o more ≡ Some (Some vs, next) → Shown line at next vs × (1 ≤ length vs) × (length vs ≤ suc n)
-    go None is e = none_some e
+    go None is e = cc
     go (Some p) is e =
         let parts = before_some p.0 (more p.1) vs next e in
         let v = parts.0 in

@@ -9,7 +9,7 @@ use Rattle.std.proofs.lemmas.Str.Parse.{digit_from_value}
 use Rattle.std.proofs.lemmas.Bool.{cond-true, cond-false, and_parts, and_left, eq-eqb, ne_eqb, eqb-true, eqb-false, cond_both, ltb-true, not-true}
 use Rattle.lexer.specs.Numbers.{number_at}
 use Rattle.lexer.specs.Tokens.{Said, word, plain, plus, register, Placed, in_field, whole, said_by, between, field_by, token_at}
-use Rattle.bits.proofs.Options.{some_same, none_some}
+use Rattle.bits.proofs.Options.{some_same}
 use Rattle.lexer.proofs.Scans.{digit_is, leading_all, space_ends, no_space}
 use Rattle.grammar.proofs.Numerals.{decimal_digits, decimal_long, number_printed, number_read}
 
@@ -137,12 +137,12 @@ token_printed text at t rest p e stop =
     ∙ ap (between at (at + length (spelled t))) (said_printed text at t rest p e stop)
 
 whole_some : (k : ℕ → Said) (end : ℕ) (o : Option (ℕ × ℕ)) (t : Said) → whole k end o ≡ Some t → (v : ℕ) × (o ≡ Some (v, end)) × (t ≡ k v)
-whole_some k end None t e = none_some e
+whole_some k end None t e = cc
 whole_some k end (Some p) t e = go (eqb p.1 end) refl e
   where
     go : (b : Bool) → eqb p.1 end ≡ b → cond b (Some (k p.0)) None ≡ Some t → (v : ℕ) × (Some p ≡ Some (v, end)) × (t ≡ k v)
     go true same e = (p.0, ap (λ (n : ℕ). Some (p.0, n)) (eqb-true p.1 end same), sym (some_same e))
-    go false same e = none_some e
+    go false same e = cc
 
 -- what the bytes of a field say is how they are written
 module _ (text : List ℕ) (at n : ℕ) (some : 0 < n) (within : n ≤ length (drop at text)) (t : Said) where
@@ -201,11 +201,11 @@ token_read text at p e = go (eqb n 0) refl e
     n = prefix_len in_field (drop at text)
 
     placed_at : (o : Option Said) → between at (at + n) o ≡ Some p → (o ≡ Some p.token) × (at + n ≡ p.next)
-    placed_at None e = none_some e
+    placed_at None e = cc
     placed_at (Some t) e = (ap (λ (x : Placed). Some x.token) (some_same e), ap (λ (x : Placed). x.next) (some_same e))
 
     go : (b : Bool) → eqb n 0 ≡ b → cond b None (between at (at + n) (said_by text at n (get_or text at 0))) ≡ Some p → (drop at text ≡ spelled p.token ++ drop p.next text) × (p.next ≡ at + length (spelled p.token))
-    go true z e = none_some e
+    go true z e = cc
     go false z e =
         let found = placed_at (said_by text at n (get_or text at 0)) e in
         let written = said_read text at n (positive n (eqb-false n 0 z)) (prefix_len-le-length in_field (drop at text)) p.token found.0 in (

@@ -13,7 +13,7 @@ use Rattle.lines.specs.Lines.{inside, Statement, end_line, put_line, get_line, f
 use Rattle.lines.specs.declared.Keyword.{Keyword}
 use Rattle.lines.specs.declared.Keyword.TheVariants.{End, Put, Get, Freeze, If, Has, Start, Let, Loop}
 use Rattle.grammar.specs.Printed.{printed_cell, printed_code, line_of, printed_statement, Formed}
-use Rattle.bits.proofs.Options.{some_same, none_some}
+use Rattle.bits.proofs.Options.{some_same}
 use Rattle.grammar.proofs.Spelling.{Stops, Wordlike, wordlike_by}
 use Rattle.grammar.proofs.Fieldwise.{Reads, Any, number_reads, cell_reads, code_reads, cell_stops, code_stops, then_reads, then_some}
 use Rattle.grammar.proofs.Rowwise.{Ends, row_reads}
@@ -63,7 +63,7 @@ module _ (w : List ℕ) (k : Keyword) where
 
   keyword_name : Spelled (keyword_in w)
   keyword_name =
-      or_else End _ (or_else Put _ (or_else Get _ (or_else Freeze _ (or_else If _ (or_else Has _ (or_else Start _ (or_else Let _ (or_else Loop _ none_some))))))))
+      or_else End _ (or_else Put _ (or_else Get _ (or_else Freeze _ (or_else If _ (or_else Has _ (or_else Start _ (or_else Let _ (or_else Loop _ (λ e. cc)))))))))
 
 nothing_reads : Reads nothing (λ _. []) Any Stops
 nothing_reads = record {
@@ -133,9 +133,9 @@ pub statement_read : (line : List ℕ) (s : Statement) → code_line line ≡ So
 statement_read line s e = go (first_word line) refl e
   where
     go : (o : Option (List ℕ × ℕ)) → first_word line ≡ o → code_from line o ≡ Some (Some s) → (line ≡ printed_statement s) × Formed s
-    go None is e = none_some e
+    go None is e = cc
     go (Some q) is e = by (keyword_in q.0) refl e
       where
         by : (o : Option Keyword) → keyword_in q.0 ≡ o → by_keyword line q.1 o ≡ Some (Some s) → (line ≡ printed_statement s) × Formed s
-        by None k e = none_some e
+        by None k e = cc
         by (Some j) k e = read_by line q.0 q.1 s is j (keyword_name q.0 j k) e

@@ -2,7 +2,9 @@
 #![tactic(auto)]
 
 ghost use Rattle.std.specs.Prelude.{◌≡◌, length, IfOk, string_bytes};
-ghost use Rattle.hub.specs.Session.{answered, session_bytes};
+ghost use Rattle.hub.specs.Objections.{objected};
+ghost use Rattle.hub.specs.Session.{answered, refusal, session_bytes, shown};
+ghost use Rattle.text.specs.Reading.{read_text};
 
 use crate::listing::Listing;
 use crate::objection::Objection;
@@ -22,22 +24,26 @@ pub const MOST_BYTES: usize = 60_000;
 pub fn session(heap: Global, input: &[u8]) -> Result<String, AllocError>
     ensures { IfOk result (λ s. string_bytes s ≡ session_bytes input.now) }
 {
-    // The reader allocates nothing: it is lent a buffer, and tells how many words it put there.
+    if input.len() > MOST_BYTES {
+        return refused(heap, Objection::Size);
+    }
     let mut words = vec![in heap; 0; MOST_WORDS]?;
     match program(input, words.as_mut_slice()) {
         Ok(listing) => listing.to_string(heap),
-        Err(objection) => format!(in heap; "{objection}\n"),
+        Err(objection) => refused(heap, objection),
     }
 }
 
-// The program in a text, whose words are put into a buffer.
-fn program<'a>(input: &[u8], words: &'a mut [u32]) -> Result<Listing<'a>, Objection>
-    requires { length words.old ≡ MOST_WORDS }
-    ensures { answered result ≡ session_bytes input.now }
+fn refused(heap: Global, objection: Objection) -> Result<String, AllocError>
+    ensures { IfOk result (λ s. string_bytes s ≡ refusal (objected objection)) }
 {
-    if input.len() > MOST_BYTES {
-        return Err(Objection::Size);
-    }
+    format!(in heap; "{objection}\n")
+}
+
+// The program in a text. The reader allocates nothing: it is lent a buffer, and tells how many words it put there.
+fn program<'a>(input: &[u8], words: &'a mut [u32]) -> Result<Listing<'a>, Objection>
+    ensures { answered result ≡ shown (read_text (length words.old) input.now) }
+{
     let count = read(input, words)?;
     let words = &words[..count];
     let served = Served::named_in(words).ok_or(Objection::Label)?;

@@ -3,8 +3,9 @@ ghost use Rattle.std.specs.Prelude.{◌≡◌, Some};
 ghost use Rattle.hub.specs.declared.objection.Objection.TheVariants.{Text};
 ghost use Rattle.hub.specs.Objections.{objected, refusal_text};
 
+use rulebook::Rule;
 use std::fmt;
-use text::Refusal;
+use text::{Cause, Refusal};
 
 #[derive(Clone, Copy, Debug, PartialEq, Eq)]
 pub(crate) enum Objection {
@@ -17,14 +18,14 @@ pub(crate) enum Objection {
 }
 
 impl Objection {
-    // The number that is printed, and the line, or 0 where no line is to blame.
+    // The number that is printed, and the line, or 0 where it is no line's.
     fn number_and_line(self) -> (u32, usize)
         ensures { result ≡ objected self }
     {
         match self {
-            Objection::Size => (1, 0),
+            Objection::Size => (Cause::Grammar.number(), 0),
             Objection::Text(refusal) => (refusal.cause.number(), refusal.line),
-            Objection::Label => (6, 0),
+            Objection::Label => (Rule::Lattice.number(), 0),
         }
     }
 }

@@ -21,6 +21,7 @@ pub(crate) enum Served {
     BothSetOnce,
 }
 
+// All of them: no derive lists variants.
 const SERVED: [Served; 5] = [
     Served::Set,
     Served::Once,
@@ -52,7 +53,7 @@ impl Description {
 }
 
 impl Served {
-    // Each lattice is a type, so a match is what goes from a value to it.
+    // A lattice is a type, and only a match leads from a value to a type.
     pub(crate) fn description(self) -> Description
         ensures called { result.name.now ≡ name_of self }
         ensures wide { result.width ≡ (meaning_of self).width }

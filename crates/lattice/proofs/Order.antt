@@ -2,12 +2,7 @@
 use Rattle.std.proofs.Common.{◌≡◌, Bool, true, false, ◌||◌, sym, refl, ap, ◌∙◌}
 use Rattle.lattice.specs.Meaning.{Meaning, Laws}
 use Rattle.lattice.specs.Order.{Order}
-use Rattle.std.proofs.lemmas.Bool.{or_parts, or_from, or_left, both_ways}
-
--- where one of two tests passes, and the first does not, the second does
-second_passes : (x y : Bool) → (x || y) ≡ true → x ≡ false → y ≡ true
-second_passes true y e f = absurd (both_ways true f refl)
-second_passes false y e f = e
+use Rattle.std.proofs.lemmas.Bool.{or_parts, or_from, or_left}
 
 -- two tests that cannot differ in one way, nor in the other
 pub same_tests : (x y : Bool) → (x ≡ false → y ≡ false) → (y ≡ false → x ≡ false) → x ≡ y
@@ -54,7 +49,7 @@ module _ (M : Meaning) (l : Laws M) where
   clash_grows a x v p n =
       let m : M.clash v x ≡ false = l.clash_sym v x ∙ n in
       let e = l.clash_assoc v x a ∙ or_left (M.clash x a) (M.clash v (M.join x a)) p in
-      rw (l.join_comm x v n) (second_passes (M.clash v x) (M.clash (M.join v x) a) e m)
+      rw (l.join_comm x v n) (rw m at e)
 
   -- two values that join a content one after the other join it in the other order too
   other_order : (x v w : M.Value) → M.clash x v ≡ false → M.clash (M.join x v) w ≡ false → (M.clash x w ≡ false) × (M.clash (M.join x w) v ≡ false)

@@ -6,6 +6,7 @@ use crate::Lattice;
 use bits::Code;
 
 // The join of the values of some codes, or none where they clash.
+#[tactic(auto, using(crate::proofs::Order::order, crate::proofs::Together::least_more, crate::proofs::Together::none_above))]
 pub fn gather<L: Lattice + Drop>(codes: &[Code]) -> Option<L>
     ensures least { Gathered L.meaning L.means codes.now result }
     ensures order { Order L.meaning }

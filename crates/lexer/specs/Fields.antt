@@ -59,10 +59,10 @@ reached (Some x) next = Some next
 abbrev pub Field : Type 0 → Type 0
 Field X = Option (Option X × ℕ)
 
--- a field that was answered, with the place after it
-abbrev pub after : {X : Type 0} → Option (Option X) → ℕ → Field X
-after None next = None
-after (Some x) next = Some (x, next)
+-- what a field says, with the place after it
+abbrev pub kept : {X : Type 0} → ℕ → Option (Option X) → Field X
+kept next None = None
+kept next (Some v) = Some (v, next)
 
 -- no field
 abbrev pub nothing : List ℕ → ℕ → Field (Unit {0})
@@ -86,11 +86,6 @@ then_by Q line (Some p) = beside p.0 (Q line p.1)
 -- a field, and the one after it
 abbrev pub then : {X Y : Type 0} → (List ℕ → ℕ → Field X) → (List ℕ → ℕ → Field Y) → List ℕ → ℕ → Field (X × Y)
 then P Q line at = then_by Q line (P line at)
-
--- what a field says, with the place after it
-abbrev pub kept : {X : Type 0} → ℕ → Option (Option X) → Field X
-kept next None = None
-kept next (Some v) = Some (v, next)
 
 -- a field that f takes
 abbrev pub only : {X : Type 0} → (Said → Option (Option X)) → Option Placed → Field X

@@ -1,4 +1,4 @@
--- How fields follow each other, and how far a cursor has come.
+-- The word that a line begins with, as the code answers it.
 use Rattle.std.specs.Prelude.{ℕ, List, Some, None, Option}
 use Rattle.std.specs.Borrow.{Bor}
 use Rattle.lexer.specs.declared.fields.Cursor.{Cursor}

@@ -39,13 +39,8 @@ placed (Some x) = Some (record { token = said x.token; place = x.place; next = x
 abbrev pub in_field : ℕ → Bool
 in_field c = not (c == 32 || c == 10)
 
--- a number that goes up to a place
-abbrev pub filling : ℕ → Option (ℕ × ℕ) → Option ℕ
-filling end None = None
-filling end (Some p) = cond (p.1 == end) (Some p.0) None
-
--- a number that fills its field
-abbrev pub whole : (ℕ → Said) → ℕ → Option (ℕ × ℕ) → Option Said
+-- what k says of a number that fills its field
+abbrev pub whole : {X : Type 0} → (ℕ → X) → ℕ → Option (ℕ × ℕ) → Option X
 whole k end None = None
 whole k end (Some p) = cond (p.1 == end) (Some (k p.0)) None
 

@@ -1,7 +1,7 @@
 // The fields of a line: each stands behind one space. A field that cannot be read breaks the grammar, and answers none.
-ghost use Rattle.std.specs.Prelude.{◌≡◌, ℕ, ◌+◌, List, IfSome};
+ghost use Rattle.std.specs.Prelude.{◌≡◌, ℕ, ◌+◌, List, IfSome, IfNone};
 ghost use Rattle.std.specs.Str.{bytes_eq};
-ghost use Rattle.lexer.specs.Fields.{Field as FieldOf, stands, ends, field_at, first_word, word_field, reached, after, nothing, then, number_field, cell_field, code_field};
+ghost use Rattle.lexer.specs.Fields.{Field as FieldOf, stands, ends, field_at, first_word, word_field, reached, kept, nothing, then, number_field, cell_field, code_field};
 ghost use Rattle.lexer.specs.Reading.{begun};
 ghost use Rattle.lexer.specs.Tokens.{spoken, between};
 
@@ -11,7 +11,8 @@ use words::{Bits, CellOperand, CodeOperand};
 // What a field or a line says, if its numbers fit their bits. It waits until the grammar of the whole line is known.
 pub type Fitting<T> = Option<T>;
 
-// A line, and how far it has been read.
+// A line, and how far it has been read. The line never changes: each contract that lends a cursor says so. Where `word` or a
+// field's read answers none, the line is to be refused, and it is not told where the cursor stands.
 #[derive(Clone, Copy, Debug, PartialEq, Eq)]
 pub struct Cursor<'a> {
     line: &'a [u8],
@@ -25,18 +26,12 @@ pub fn first_word<'a>(line: &'a [u8]) -> Option<(&'a [u8], Cursor<'a>)>
 {
     let lexeme = next_token(line, 0)?;
     match lexeme.token {
-        Token::Word(word) => Some((
-            word,
-            Cursor {
-                line,
-                at: lexeme.next,
-            },
-        )),
+        Token::Word(word) => Some((word, Cursor::new(line, lexeme.next))),
         _ => None,
     }
 }
 
-// Whether a word is spelt as a name is.
+// Whether a word is spelt as a name is, in the words of a contract.
 pub fn spells(word: &[u8], name: &[u8]) -> bool
     ensures { result ≡ bytes_eq word.now name.now }
 {
@@ -44,11 +39,26 @@ pub fn spells(word: &[u8], name: &[u8]) -> bool
 }
 
 impl<'a> Cursor<'a> {
+    // A line that has been read up to a place.
+    pub fn new(line: &'a [u8], at: usize) -> Cursor<'a>
+        ensures line { result.line.now ≡ line.now }
+        ensures place { result.at ≡ at }
+    {
+        Cursor { line, at }
+    }
+
+    // How far the line has been read.
+    pub fn place(&self) -> usize
+        ensures { result ≡ self.now.at }
+    {
+        self.at
+    }
+
     // Whether a byte stands here.
     pub fn is_at(&self, byte: u8) -> bool
         ensures { result ≡ stands self.now.line.now self.now.at byte }
     {
-        self.at < self.line.len() && self.line[self.at] == byte
+        self.line.len() > self.at && self.line[self.at] == byte
     }
 
     // Whether the line ends here: its LF stands here, and nothing after it.
@@ -62,12 +72,13 @@ impl<'a> Cursor<'a> {
     pub fn token(&mut self) -> Option<Token<'a>>
         ensures is { between (self.old.at + 1) self.new.at (spoken result) ≡ field_at self.old.line.now self.old.at }
         ensures line { self.new.line.now ≡ self.old.line.now }
+        ensures stays { IfNone result (self.new.at ≡ self.old.at) }
     {
         if !self.is_at(b' ') {
             return None;
         }
         let lexeme = next_token(self.line, self.at + 1)?;
-        self.at = lexeme.next;
+        *self = Cursor::new(self.line, lexeme.next);
         Some(lexeme.token)
     }
 
@@ -88,7 +99,7 @@ pub trait Field: Drop {
     ghost reads: { List ℕ → ℕ → FieldOf Self };
 
     fn read(cursor: &mut Cursor<'_>) -> Option<Fitting<Self>>
-        ensures is { after result cursor.new.at ≡ reads cursor.old.line.now cursor.old.at }
+        ensures is { kept cursor.new.at result ≡ reads cursor.old.line.now cursor.old.at }
         ensures line { cursor.new.line.now ≡ cursor.old.line.now };
 }
 

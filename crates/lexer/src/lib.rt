@@ -4,7 +4,7 @@
 ghost use Rattle.std.specs.Prelude.{◌≡◌, ◌+◌, ◌-◌, ◌<◌, ◌≤◌, length, drop, slice_index, IfSome};
 ghost use Rattle.std.specs.Str.Parse.{AllDigits, digits_value};
 ghost use Rattle.lexer.specs.Numbers.{digits_at, number_at};
-ghost use Rattle.lexer.specs.Tokens.{placed, spoken, in_field, said_by, filling, token_at};
+ghost use Rattle.lexer.specs.Tokens.{placed, spoken, in_field, said_by, whole, token_at};
 ghost use Rattle.std.specs.List.{prefix_len};
 ghost use Rattle.std.specs.Char.{is_ascii_digit};
 
@@ -27,7 +27,7 @@ pub struct Lexeme<'a> {
     pub next: usize,
 }
 
-// The number that stands at a place, answered together with the place after it: the form that the project asks for.
+// The number that stands at a place, together with the place after it, where whoever reads on begins.
 pub fn number(text: &[u8], at: usize) -> Option<(u32, usize)>
     ensures { result ≡ number_at text.now at }
 {
@@ -38,7 +38,7 @@ pub fn number(text: &[u8], at: usize) -> Option<(u32, usize)>
     }
 }
 
-// The token that begins at a place. It is told with its place and the place after it, so text and place go together in this file.
+// The token that begins at a place. Text and place are parameters together in this file: what stands there is a part of the text, and its place is told.
 pub fn next_token<'a>(text: &'a [u8], at: usize) -> Option<Lexeme<'a>>
     ensures is { placed result ≡ token_at text.now at }
     ensures begins { IfSome result (λ x. x.place ≡ at) }
@@ -82,7 +82,8 @@ fn digit_count(text: &[u8]) -> usize
     text.iter().take_while(|byte| byte.is_ascii_digit()).count()
 }
 
-// The number that nine digits or fewer write.
+// The number that nine digits or fewer write; the library parses a `str`, and would look at each byte again.
+#[tactic(auto, using(crate::proofs::Scans::digit_value, crate::proofs::Scans::value_bound, std::proofs::lemmas::Int::Digits::digits_value_more))]
 fn digits_value(digits: &[u8]) -> u32
     requires few { length digits.now ≤ 9 }
     requires all { AllDigits 10 digits.now }
@@ -123,7 +124,7 @@ fn token_of<'a>(text: &'a [u8], at: usize, width: usize) -> Option<Token<'a>>
 
 // The number that goes from one place to another.
 fn number_up_to(text: &[u8], at: usize, end: usize) -> Option<u32>
-    ensures { result ≡ filling end (number_at text.now at) }
+    ensures { result ≡ whole (λ v. v) end (number_at text.now at) }
 {
     let (value, next) = number(text, at)?;
     (next == end).then_some(value)

@@ -10,7 +10,8 @@ use lattice::{Lattice, add_widths};
 
 #[derive(Drop, Debug, PartialEq, Eq)]
 pub struct Lift<L> {
-    told: Option<L>,
+    // None stands for "nothing yet".
+    pub told: Option<L>,
 }
 
 impl<L: Lattice + Drop> Lattice for Lift<L> {

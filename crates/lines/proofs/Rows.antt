@@ -4,7 +4,6 @@ use Rattle.std.specs.Option.{option_map}
 use Rattle.std.proofs.lemmas.List.{append_assoc, append-nil}
 use Rattle.std.proofs.lemmas.Bool.{cond-true, cond-false}
 use Rattle.arrayvec.specs.ArrayVec.{ArrayVec}
-use Rattle.bits.proofs.Options.{some_same, none_some}
 use Rattle.words.specs.declared.instruction.CodeOperand.{CodeOperand}
 use Rattle.lexer.specs.Fields.{Field, stands, code_field}
 use Rattle.lines.specs.Forms.{ahead, before, firstly, row_at, trigger, row_words, stored}
@@ -82,6 +81,6 @@ module _ (i : ℕ) (line : List ℕ) (at : ℕ) (words : Option (List ℕ)) {who
 -- a row grows by a word at most
 pub few_more : (n : ℕ) (words more : Option (ArrayVec ℕ)) (v : Option CodeOperand) → IfSome words (λ ws. length ws.items ≤ n) → words_in more ≡ stored (words_in words) v → IfSome more (λ ws. length ws.items ≤ n + 1)
 few_more n words None v few e = tt
-few_more n None (Some ws) v few e = none_some (sym e)
-few_more n (Some old) (Some ws) None few e = none_some (sym e)
-few_more n (Some old) (Some ws) (Some v) few e = omega (arith, few, ap length (some_same e), length-append {A = ℕ})
+few_more n None (Some ws) v few e = cc
+few_more n (Some old) (Some ws) None few e = cc
+few_more n (Some old) (Some ws) (Some v) few e = let same : ws.items ≡ old.items ++ (trigger v ∷ []) = cc in omega (arith, few, ap length same, length-append {A = ℕ})

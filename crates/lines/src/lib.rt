@@ -72,6 +72,7 @@ fn head_in(line: &[u8]) -> Option<Fitting<Head>>
     ensures { result ≡ head_line line.now }
 {
     let (word, cursor) = first_word(line)?;
+    // A pattern was tried here, and its proof stayed open.
     if spells(word, b"lattice") {
         head_fields(cursor)
     } else {
@@ -170,7 +171,8 @@ fn last<F: Field>(mut cursor: Cursor<'_>) -> Option<Fitting<F>>
     cursor.is_done().then_some(said)
 }
 
-// A line of code behind its first word: its fields are cells C, codes V, numbers N, places P and tasks T.
+// A line of code behind its first word: its fields are cells C, codes V, numbers N, places P and tasks T. A match, so that no keyword can lack its fields.
+#[tactic(auto, using(crate::proofs::Gets::get_words))]
 fn statement(keyword: Keyword, cursor: Cursor<'_>) -> Option<Fitting<LineWords>>
     ensures { inside told result ≡ inside statement_words (statement_by keyword cursor.entry.line.now cursor.entry.at) }
 {

@@ -9,7 +9,7 @@ use arrayvec::ArrayVec;
 use lexer::fields::{Cursor, Field, Fitting};
 use words::{Bits, CellOperand, CodeOperand, Instruction, Word};
 
-// The words of one to eight triggers.
+// The words of at most eight triggers.
 #[derive(Drop)]
 pub(crate) struct Triggers {
     words: ArrayVec<u32, 8>,
@@ -20,6 +20,7 @@ impl Triggers {
     pub(crate) fn behind(self, cell: CellOperand) -> LineWords
         ensures { told result ≡ get_told (cell, self) }
     {
+        // Eight at most, so the count loses nothing.
         let count = Bits::low(self.words.len() as u32);
         LineWords::with_triggers(Instruction::Get(cell, count).encode(), self.words)
     }
@@ -39,6 +40,7 @@ fn row(cursor: &mut Cursor<'_>) -> Option<Fitting<ArrayVec<u32, 8>>>
     ensures line { cursor.new.line.now ≡ cursor.old.line.now }
 {
     let mut words = stored(Some(ArrayVec::new()), CodeOperand::read(cursor)?);
+    // Seven more at most.
     for _turn in 1..8_usize {
         if !cursor.is_at(b' ') {
             break;

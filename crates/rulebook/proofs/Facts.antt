@@ -5,7 +5,6 @@ use Rattle.std.proofs.lemmas.List.{get_or-take, get_or-drop, length-drop, length
 use Rattle.std.proofs.lemmas.List.Sums.{prefix_len-le-length}
 use Rattle.std.proofs.lemmas.Bool.{both_ways, cases_eq, and_parts, and_from, or_parts, or_cases, not-false, ltb-true, ltb-false, leb-true, leb-false, eqb-true, eq-eqb, lt-ltb, le-leb}
 use Rattle.bits.specs.declared.Bits.{Bits}
-use Rattle.bits.proofs.Options.{some_same, none_some}
 use Rattle.lattice.specs.Meaning.{Meaning}
 use Rattle.words.specs.Fields.{kind}
 use Rattle.words.specs.Instructions.{instruction_in, code_in}
@@ -24,7 +23,8 @@ use Rattle.rulebook.specs.declared.Refusal.{Refusal}
 use Rattle.rulebook.specs.Judgement.{Accepted, Judgement}
 use Rattle.rulebook.specs.Sound.{Sound, Trigger}
 use Rattle.rulebook.proofs.Firsts.{at_some}
-use Rattle.rulebook.proofs.Rows.{counted_get, end_is, plain, plain_or, counts_or, leading_passes, leading_stops, passes_at, pairs_at}
+use Rattle.std.proofs.lemmas.List.Sums.{prefix_len_passes, prefix_len_stops, AllPass-from_list_all}
+use Rattle.rulebook.proofs.Rows.{counted_get, end_is, plain, plain_or, counts_or, pairs_at}
 
 -- of two tests that are not both passed, the second fails where the first passes
 second_fails : (x y : Bool) → (x && y) ≡ false → x ≡ true → y ≡ false
@@ -50,7 +50,7 @@ module _ (ws : List ℕ) where
     where
       go : (b : Bool) → in_code ws p ≡ b → cond b (instruction_in (get_or ws p 0)) None ≡ Some i → (tasks ws < p) × (p < length ws)
       go true f e = let h = and_parts (ltb (tasks ws) p) (ltb p (length ws)) f in (ltb-true (tasks ws) p h.0, ltb-true p (length ws) h.1)
-      go false f e = none_some e
+      go false f e = cc
 
   -- a word of code of TRIG's kind is a TRIG, and no other is
   code_trig : (p : ℕ) (i : Instruction) → code_at ws p ≡ Some i → is_trigger (get_or ws p 0) ≡ true → (v : CodeOperand) × (i ≡ Trig v) × (code_in (get_or ws p 0) ≡ Some v)
@@ -75,7 +75,7 @@ module _ (ws : List ℕ) where
   not_trig : (p : ℕ) (i : Instruction) (v : CodeOperand) → instruction_at ws p ≡ Some i → i ≡ Trig v → ⊥
   not_trig p i v e t =
       let none : no_trigger (code_at ws p) ≡ None = ap no_trigger (instruction_code p i e ∙ ap Some t) in
-      none_some (sym none ∙ e)
+      cc
 
   module _ (M : Meaning) (a : Accepted M ws) where
     kept_tasks : (p : ℕ) → lacks_task ws p ≡ false
@@ -154,7 +154,7 @@ module _ (ws : List ℕ) where
 
       row_kind : (k : ℕ) → k < n.value → is_trigger (get_or ws (p + 1 + k) 0) ≡ true
       unfolding run
-      row_kind k l = ap is_trigger (sym (get_or-drop (p + 1) ws k 0)) ∙ leading_passes is_trigger (drop (p + 1) ws) k 0 (omega (arith, run_is))
+      row_kind k l = ap is_trigger (sym (get_or-drop (p + 1) ws k 0)) ∙ prefix_len_passes is_trigger (drop (p + 1) ws) k 0 (omega (arith, run_is))
 
       -- the last word is no trigger, so that some word stands behind the row
       row_inside : p + 1 + n.value < length ws
@@ -172,7 +172,7 @@ module _ (ws : List ℕ) where
       unfolding run
       row_stops =
           let rest = drop (p + 1) ws in
-          let stop = leading_stops is_trigger rest 0 (omega (arith, run_is, length-drop (p + 1) ws, row_inside)) in
+          let stop = prefix_len_stops is_trigger rest 0 (omega (arith, run_is, length-drop (p + 1) ws, row_inside)) in
           ap is_trigger (sym (ap (λ (m : ℕ). get_or rest m 0) run_is ∙ get_or-drop (p + 1) ws n.value 0)) ∙ stop
 
       row_trigger : (k : ℕ) → k < n.value → (v : CodeOperand) × (code_at ws (p + 1 + k) ≡ Some (Trig v))
@@ -228,7 +228,7 @@ module _ (ws : List ℕ) where
         let code = instruction_code p i e in
         let h = code_inside p i code in
         let more : p + 1 < length ws = elim (cases_eq (p + 1) (length ws)) [
-          | inl s ↦ absurd (other (let back : p ≡ length ws - 1 = omega arith in some_same (sym code ∙ ap (code_at ws) back ∙ last)))
+          | inl s ↦ absurd (other (let back : p ≡ length ws - 1 = omega arith in cc last))
           | inr ne ↦ omega (arith, h.1)
         ] in
         instruction_here (p + 1) (omega (arith, h.0)) more (no_trig_behind p i e none)
@@ -271,7 +271,7 @@ module _ (ws : List ℕ) where
           | inl e ↦ eqb-true n.value 1 e
           | inr e ↦
               let marked = code_register (get_or ws (p + 1 + k) 0) (trig_code (p + 1 + k) code.Register t.word).1 in
-              let bare = passes_at (λ w. not (from_register w)) row k 0 (omega (arith, row_length p t.cell n get, t.within)) e in
+              let bare = AllPass-from_list_all (λ w. not (from_register w)) row e k 0 (omega (arith, row_length p t.cell n get, t.within)) in
               let same = ap (λ (w : ℕ). not (from_register w)) (row_word p t.cell n get k t.within) in
               absurd (both_ways true (sym (sym same ∙ bare) ∙ ap not marked) refl)
         ]

@@ -1,7 +1,6 @@
 -- The first number that passes a test, and whether some number below another does.
 use Rattle.std.proofs.Common.{◌≡◌, ℕ, zero, suc, ◌+◌, ◌<◌, ◌≤◌, Bool, true, false, cond, ◌||◌, ◌⊎◌, Some, None, sym, refl, ap, ◌∙◌, inl, inr, arith}
 use Rattle.std.proofs.lemmas.Bool.{both_ways, cases_eq, or_cases, or_left, or_right, or_from}
-use Rattle.bits.proofs.Options.{some_same, none_some}
 use Rattle.rulebook.specs.Rules.{some_below}
 use Rattle.rulebook.specs.Judgement.{first_from}
 
@@ -14,11 +13,11 @@ pub record First (test : ℕ → Bool) (p q : ℕ) : Type 0 where
 module _ (test : ℕ → Bool) where
   pub first_some : (n p q : ℕ) → first_from test n p ≡ Some q → First test p q
   unfolding first_from
-  first_some zero p q e = none_some e
+  first_some zero p q e = cc
   first_some (suc n) p q e = go (test p) refl e (first_some n (suc p) q)
     where
       go : (b : Bool) → test p ≡ b → cond b (Some p) (first_from test n (suc p)) ≡ Some q → (first_from test n (suc p) ≡ Some q → First test (suc p) q) → First test p q
-      go true t e next = let s : p ≡ q = some_same e in record { from = omega arith; passes = ap test (sym s) ∙ t; earlier = λ r l m. absurd (omega arith) }
+      go true t e next = let s : p ≡ q = cc in record { from = omega arith; passes = ap test (sym s) ∙ t; earlier = λ r l m. absurd (omega arith) }
       go false t e next =
           let f = next e in
           record {
@@ -33,7 +32,7 @@ module _ (test : ℕ → Bool) where
   first_none (suc n) p e r l m = go (test p) refl e (cases_eq p r) (λ f. first_none n (suc p) f r)
     where
       go : (b : Bool) → test p ≡ b → cond b (Some p) (first_from test n (suc p)) ≡ None → (p ≡ r) ⊎ (p ≡ r → ⊥) → (first_from test n (suc p) ≡ None → suc p ≤ r → r < suc p + n → test r ≡ false) → test r ≡ false
-      go true t e s next = none_some (sym e)
+      go true t e s next = cc
       go false t e (inl s) next = ap test (sym s) ∙ t
       go false t e (inr s) next = next e (omega arith) (omega arith)
 

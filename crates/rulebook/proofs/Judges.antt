@@ -1,5 +1,5 @@
 -- The judgement keeps its law: it refuses by the first rule of the table that is broken, at the first place.
-use Rattle.std.proofs.Common.{◌≡◌, ℕ, suc, ◌+◌, ◌-◌, ◌<◌, ◌≤◌, true, false, cond, MatchOption, not, ◌&&◌, eqb, ltb, leb, List, [], ◌∷◌, ◌++◌, length, get_or, drop, is_some, Some, None, Ok, Err, Option, Result, sym, refl, ap, ◌∙◌, subst, inl, inr, arith}
+use Rattle.std.proofs.Common.{◌≡◌, ℕ, suc, ◌+◌, ◌-◌, ◌<◌, ◌≤◌, true, false, cond, MatchOption, not, ◌&&◌, eqb, ltb, leb, List, [], ◌∷◌, ◌++◌, length, get_or, drop, is_some, Some, None, Ok, Err, Option, sym, refl, ap, ◌∙◌, subst, inl, inr, arith}
 use Rattle.std.specs.List.{AllByRecursion}
 use Rattle.std.proofs.lemmas.List.{at_drop_more, at_drop_all}
 use Rattle.std.proofs.lemmas.Bool.{both_ways, cases_lt, le-ltb, ne_eqb, and_left, and_right, or_from}
@@ -71,9 +71,6 @@ module _ (M : Meaning) (ws : List ℕ) where
   searched k None h = sym (first_nowhere (breaks M k ws) (suc (length ws)) 0 (λ p l m. h p (omega arith)))
   searched k (Some p) h = sym (finds k p (record { from = omega arith; passes = h.0; earlier = λ r l m. h.1 r m }))
 
-  err_ok : {P : Type 0} (f : Refusal) (c : Counts) → ◌≡◌ {A = Result Counts Refusal} (Err f) (Ok c) → P
-  err_ok f c e = let z : ◌≡◌ {A = ℕ} 0 1 = cc in absurd (omega arith)
-
   -- rules in turn
   accepts_by : (ks : List Rule) (c : Counts) → judged_by M ws ks ≡ Ok c → AllByRecursion (Kept M ws) ks × (c ≡ counts_of ws)
   unfolding judged_by
@@ -82,7 +79,7 @@ module _ (M : Meaning) (ws : List ℕ) where
     where
       go : (o : Option ℕ) → first_broken M ws k ≡ o → refused_or M ws k o (judged_by M ws ks) ≡ Ok c → (judged_by M ws ks ≡ Ok c → AllByRecursion (Kept M ws) ks × (c ≡ counts_of ws)) → (Kept M ws k × AllByRecursion (Kept M ws) ks) × (c ≡ counts_of ws)
       go None s e next = let h = next e in ((kept k s, h.0), h.1)
-      go (Some p) s e next = err_ok _ c e
+      go (Some p) s e next = cc
 
   accepted_by : (ks : List Rule) → AllByRecursion (Kept M ws) ks → judged_by M ws ks ≡ Ok (counts_of ws)
   unfolding judged_by
@@ -102,18 +99,15 @@ module _ (M : Meaning) (ws : List ℕ) where
     pub others : AllByRecursion (Kept M ws) before
     pub here : First (breaks M f.rule ws) 0 f.place
 
-  err_same : (k : Rule) (p : ℕ) (f : Refusal) → ◌≡◌ {A = Result Counts Refusal} (Err (record { rule = k; place = p })) (Err f) → record { rule = k; place = p } ≡ f
-  err_same k p f e = cc
-
   refuses_by : (ks : List Rule) (f : Refusal) → judged_by M ws ks ≡ Err f → Apart ks f
   unfolding judged_by
-  refuses_by [] f e = err_ok f _ (sym e)
+  refuses_by [] f e = cc
   refuses_by (k ∷ ks) f e = go (first_broken M ws k) refl e (refuses_by ks f)
     where
       go : (o : Option ℕ) → first_broken M ws k ≡ o → refused_or M ws k o (judged_by M ws ks) ≡ Err f → (judged_by M ws ks ≡ Err f → Apart ks f) → Apart (k ∷ ks) f
       go None s e next = let h = next e in record { before = k ∷ h.before; behind = h.behind; stands = ap (λ l. k ∷ l) h.stands; others = (kept k s, h.others); here = h.here }
       go (Some p) s e next =
-          let same = err_same k p f e in
+          let same : ◌≡◌ {A = Refusal} (record { rule = k; place = p }) f = cc in
           record { before = []; behind = ks; stands = ap (λ (g : Refusal). g.rule ∷ ks) same; others = tt; here = subst (λ (g : Refusal). First (breaks M g.rule ws) 0 g.place) same (found k p s) }
 
   -- the table has every rule

@@ -1,9 +1,9 @@
 -- Instructions by their cases, and the words that begin a list.
-use Rattle.std.proofs.Common.{◌≡◌, ℕ, zero, suc, ◌+◌, ◌-◌, ◌<◌, ◌≤◌, Bool, true, false, cond, ◌&&◌, leb, MatchBool, ◌⊎◌, List, [], ◌∷◌, length, get_or, drop, is_some, Some, Option, sym, refl, ap, ◌∙◌, inl, inr, arith}
-use Rattle.std.specs.List.{prefix_len, list_all, enumerate_from}
+use Rattle.std.proofs.Common.{◌≡◌, ℕ, zero, suc, ◌+◌, ◌-◌, ◌<◌, ◌≤◌, Bool, true, false, ◌&&◌, leb, MatchBool, ◌⊎◌, List, [], ◌∷◌, length, get_or, drop, is_some, Some, Option, sym, refl, ap, ◌∙◌, inl, inr, arith}
+use Rattle.std.specs.List.{list_all, enumerate_from}
 use Rattle.std.proofs.lemmas.Bool.{both_ways, cases_lt, and_parts, le-leb, lt-leb, leb-true, leb-false}
 use Rattle.std.proofs.lemmas.List.{drop-drop}
-use Rattle.bits.proofs.Options.{none_some}
+use Rattle.std.proofs.lemmas.List.Sums.{AllPass-from_list_all}
 use Rattle.bits.specs.declared.Bits.{Bits}
 use Rattle.lattice.specs.Meaning.{Meaning}
 use Rattle.words.specs.declared.instruction.CellOperand.{CellOperand}
@@ -30,7 +30,7 @@ end_is _ e = absurd (both_ways false refl e)
 
 -- an instruction is a word of code, and a word of code is an instruction or a TRIG
 pub plain : (o : Option Instruction) (i : Instruction) → no_trigger o ≡ Some i → o ≡ Some i
-plain (Some (Trig v)) i e = none_some e
+plain (Some (Trig v)) i e = cc
 plain o i e = e
 
 pub plain_or : (i : Instruction) → (is_some (no_trigger (Some i)) ≡ true) ⊎ ((v : CodeOperand) × (i ≡ Trig v))
@@ -42,38 +42,11 @@ pub counts_or : (i : Instruction) → ((c : CellOperand) × (n : Bits 4) × (i �
 counts_or (Get c n) = inl (c, n, refl)
 counts_or _ = inr refl
 
-module _ {X : Type 0} (p : X → Bool) where
-  -- those that begin a list pass the test, and the one behind them does not
-  pub leading_passes : (xs : List X) (k : ℕ) (d : X) → k < prefix_len p xs → p (get_or xs k d) ≡ true
-  leading_passes [] k d h = absurd (omega arith)
-  leading_passes (x ∷ xs) k d h = go (p x) refl k h (λ j. leading_passes xs j d)
-    where
-      go : (b : Bool) → p x ≡ b → (k : ℕ) → k < cond b (1 + prefix_len p xs) 0 → ((j : ℕ) → j < prefix_len p xs → p (get_or xs j d) ≡ true) → p (get_or (x ∷ xs) k d) ≡ true
-      go true e zero h next = e
-      go true e (suc k) h next = next k (omega arith)
-      go false e k h next = absurd (omega arith)
-
-  pub leading_stops : (xs : List X) (d : X) → prefix_len p xs < length xs → p (get_or xs (prefix_len p xs) d) ≡ false
-  leading_stops [] d h = absurd (omega arith)
-  leading_stops (x ∷ xs) d h = go (p x) refl h (leading_stops xs d)
-    where
-      one : (n : ℕ) → get_or (x ∷ xs) (1 + n) d ≡ get_or xs n d
-      one n = let s : 1 + n ≡ suc n = omega arith in ap (λ (m : ℕ). get_or (x ∷ xs) m d) s
-
-      go : (b : Bool) → p x ≡ b → cond b (1 + prefix_len p xs) 0 < suc (length xs) → (prefix_len p xs < length xs → p (get_or xs (prefix_len p xs) d) ≡ false) → p (get_or (x ∷ xs) (cond b (1 + prefix_len p xs) 0) d) ≡ false
-      go true e h next = ap p (one (prefix_len p xs)) ∙ next (omega arith)
-      go false e h next = e
-
-  pub passes_at : (xs : List X) (k : ℕ) (d : X) → k < length xs → list_all p xs ≡ true → p (get_or xs k d) ≡ true
-  passes_at [] k d h e = absurd (omega arith)
-  passes_at (x ∷ xs) zero d h e = (and_parts (p x) (list_all p xs) e).0
-  passes_at (x ∷ xs) (suc k) d h e = passes_at xs k d (omega arith) (and_parts (p x) (list_all p xs) e).1
-
 module _ (M : Meaning) where
   pub pairs_at : (ws : List ℕ) (j k : ℕ) → j < k → k < length ws → pairs_clash M ws ≡ true → M.clash (trigger_value M (get_or ws j 0)) (trigger_value M (get_or ws k 0)) ≡ true
   pairs_at [] j k h l e = absurd (omega arith)
   pairs_at (w ∷ ws) zero zero h l e = absurd (omega arith)
-  pairs_at (w ∷ ws) zero (suc k) h l e = passes_at (λ u. M.clash (trigger_value M w) (trigger_value M u)) ws k 0 (omega arith) (and_parts (clashes_with_all M (trigger_value M w) ws) (pairs_clash M ws) e).0
+  pairs_at (w ∷ ws) zero (suc k) h l e = AllPass-from_list_all (λ u. M.clash (trigger_value M w) (trigger_value M u)) ws (and_parts (clashes_with_all M (trigger_value M w) ws) (pairs_clash M ws) e).0 k 0 (omega arith)
   pairs_at (w ∷ ws) (suc j) zero h l e = absurd (omega arith)
   pairs_at (w ∷ ws) (suc j) (suc k) h l e = pairs_at ws j k (omega arith) (omega arith) (and_parts (clashes_with_all M (trigger_value M w) ws) (pairs_clash M ws) e).1
 

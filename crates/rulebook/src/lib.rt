@@ -7,7 +7,7 @@ ghost use Rattle.rulebook.specs.Refusals.{number as number_of};
 // The most words that a program has.
 pub const MOST_WORDS: usize = 8_192;
 
-// A rule that a program can break. They are numbered in their order, from 4 on.
+// A rule that a program can break. Each has the number behind that of the one above it.
 #[derive(Clone, Copy, Debug, PartialEq, Eq, Hash)]
 pub enum Rule {
     // A program has 1 to 8,192 words.
@@ -43,6 +43,7 @@ pub struct Counts {
 }
 
 impl Rule {
+    // A name of the subject says more than a conversion.
     pub fn number(self) -> u32
         ensures { result ≡ number_of self }
     {

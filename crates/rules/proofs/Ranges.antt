@@ -8,7 +8,6 @@ use Rattle.std.specs.Iterator.Runs.{Run, ItemsCountUp, ItemsCountDown, IsIdentic
 use Rattle.std.proofs.iter.runs.Sources.{nat_range_steps_back, nat_range_inclusive_steps, inclusive_listed, range_runs_back}
 use denote.Param.Members.{Mut}
 use denote.Ref.{Bor}
-use Rattle.bits.proofs.Options.{some_same}
 
 plain : (o : Option ℕ) (n : ℕ) → option_map (λ y. y) o ≡ Some n → o ≡ Some n
 plain None n e = e
@@ -25,7 +24,8 @@ module _ {F : Type 0} {g : Mut F (Bor ℕ × Unit {0}) Bool} {f : F} (test : ℕ
   pub first_up : (o : Option ℕ) → MatchOption o (IsTrue u.whole × NoItemPasses u g f) (EndsAtFirstPassing u g f) → MatchOption o ((p : ℕ) → p < n + 1 → test p ≡ false) (λ p. (test p ≡ true) × ((q : ℕ) → q < p → test q ≡ false))
   first_up None h = λ p l. sym (tells p false f (subst (λ o. IfSome o (λ x. CalledAt g f x false f)) (here p (omega (arith, up.1 h.0, start, end))) (h.1 keeps p)))
   first_up (Some x) h =
-      let same : h.0 ≡ x = some_same (sym (here h.0 (omega (arith, h.1))) ∙ h.2) in
+      let at = here h.0 (omega (arith, h.1)) in
+      let same : h.0 ≡ x = cc (h.2) in
       let gave = h.3 keeps in
       (sym (tells x true f gave.0), λ q l. sym (tells q false f (subst (λ o. IsSomeAnd o (λ y. CalledAt g f y false f)) (here q (omega (arith, h.1, same))) (gave.1 q (omega (arith, same))))))
 

@@ -17,7 +17,7 @@ const MOST_TASKS: u32 = 512;
 const MOST_WIDTH: u8 = 64;
 
 impl Program<'_> {
-    // What is missing at the end of a program is missed at the word count. By a match no rule can be without its test.
+    // What is missing at the end of a program is told at the place behind the last word. A match, so that no rule can lack its test.
     pub(crate) fn breaks<L: Lattice + Drop>(&self, rule: Rule, place: usize) -> bool
         ensures { result ≡ breaks L.meaning rule self.now.words.now place }
     {
@@ -67,7 +67,6 @@ impl Program<'_> {
     }
 
     fn is_ill_formed(&self, place: usize) -> bool
-        requires { place < length self.now.words.now }
         ensures { result ≡ ill_formed self.now.words.now place (code_at self.now.words.now place) }
     {
         match self.code_at(place) {
@@ -96,8 +95,8 @@ impl Program<'_> {
                 | Instruction::Freeze(cell)
                 | Instruction::Has(cell, _),
             ) => self.is_lost_cell(cell),
-            Some(Instruction::If(_, place) | Instruction::Loop(_, place)) => {
-                !self.is_instruction(place.into())
+            Some(Instruction::If(_, target) | Instruction::Loop(_, target)) => {
+                !self.is_instruction(target.into())
             }
             Some(Instruction::Start(task)) => self.counts.tasks <= usize::from(task),
             _ => false,

@@ -50,7 +50,7 @@ impl Program<'_> {
         Ok(self.counts)
     }
 
-    // The first place where it breaks a rule. What is missing at its end is missed at the word count.
+    // The first place where it breaks a rule. What is missing at its end is told at the place behind the last word.
     fn first_broken<L: Lattice + Drop>(&self, rule: Rule) -> Option<usize>
         ensures { result ≡ first_broken L.meaning self.now.words.now rule }
     {

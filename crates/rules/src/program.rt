@@ -10,7 +10,7 @@ use words::{Entry, Head, Instruction, Word};
 #[derive(Clone, Copy, Debug, PartialEq, Eq)]
 pub(crate) struct Program<'a> {
     pub(crate) words: &'a [u32],
-    // None of either where it has no HEAD.
+    // None of either where it has no HEAD, so that no rule needs a case for that.
     pub(crate) counts: Counts,
     ghost counted: { counts ≡ counts_of words.now },
     ghost few: { counts.tasks < 1024 },
@@ -46,7 +46,7 @@ impl Program<'_> {
         self.counts.tasks < place && place < self.words.len()
     }
 
-    // What a TASK word says. It shares no function with `code_at`: that would take the test and the type, and be no shorter.
+    // What a TASK word says. A function for this and `code_at` would take the test and the type, and be no shorter.
     #[tactic(auto, unfolding(rulebook::specs::Programs::entry_at))]
     pub(crate) fn entry_at(&self, place: usize) -> Option<Entry>
         ensures { result ≡ entry_at self.now.words.now place }

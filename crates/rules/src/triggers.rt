@@ -34,7 +34,7 @@ impl<'a> Program<'a> {
 fn is_trig(word: u32) -> bool
     ensures { result ≡ is_trigger word }
 {
-    matches!(kind(word), Ok(Kind::Trig))
+    kind(word) == Kind::Trig
 }
 
 // How many TRIG words come first.

@@ -80,6 +80,7 @@ impl Lattice for Set {
         false
     }
 
+    // Versions does the same with its counts; the line there says why each has its own.
     fn join(&mut self, other: Set) {
         self.words = array::from_fn(|i| union(self.word_at(i), other.word_at(i)));
     }
@@ -96,6 +97,7 @@ impl Lattice for Set {
         8
     }
 
+    #[tactic(auto, using(crate::proofs::Members::word_held))]
     fn word(&self, i: u8) -> u32 {
         self.word_at(usize::from(i))
     }

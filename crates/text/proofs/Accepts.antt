@@ -9,7 +9,6 @@ use Rattle.words.specs.Entries.{entry_word}
 use Rattle.lines.specs.Lines.{Statement, statement_words, inside, head_line, entry_line, code_line}
 use Rattle.grammar.specs.Printed.{printed_head, printed_entry, printed_statement, Formed}
 use Rattle.grammar.specs.Programs.{Program, Whole, printed, program_words}
-use Rattle.bits.proofs.Options.{some_same, none_some}
 use Rattle.grammar.proofs.Linewise.{head_printed, head_read, entry_printed, entry_read}
 use Rattle.grammar.proofs.Statements.{statement_printed, statement_read}
 use Rattle.text.specs.declared.section.Section.{Section}
@@ -18,7 +17,7 @@ use Rattle.text.specs.declared.refusal.Cause.{Cause}
 use Rattle.text.specs.declared.refusal.Cause.TheVariants.{Room}
 use Rattle.text.specs.declared.refusal.Refusal.{Refusal}
 use Rattle.text.specs.Reading.{line_by, tasks_left, head_in, entry_in, code_in, line_in, lines_of, ended, prefixed, refused, outcome_by, outcome, reading}
-use Rattle.text.proofs.Writes.{same_ok, err_ok, one_line}
+use Rattle.text.proofs.Writes.{one_line}
 use Rattle.text.proofs.Feeds.{lines_for, lines_printed, lines_joined}
 
 -- what each section makes of a line
@@ -88,16 +87,16 @@ printed_fits text room p whole e = subst (λ (ls : List (List ℕ)). Fits (outco
 
 -- what lines were read from
 by_some : {X : Type 0} (f : X → List ℕ × Section) (o : Option (Option X)) (ws : List ℕ) (t : Section) → line_by f o ≡ Ok (ws, t) → (x : X) × (o ≡ Some (Some x)) × (f x ≡ (ws, t))
-by_some f None ws t e = err_ok e
-by_some f (Some None) ws t e = err_ok e
-by_some f (Some (Some x)) ws t e = (x, refl, same_ok e)
+by_some f None ws t e = cc
+by_some f (Some None) ws t e = cc
+by_some f (Some (Some x)) ws t e = (x, refl, cc)
 
 -- a line that is read, among lines that are
 first_line : (l : List ℕ) (ls : List (List ℕ)) (s : Section) (k room : ℕ) (all : List ℕ) → outcome (l ∷ ls) s k room ≡ Ok all → (ws : List ℕ) × (t : Section) × (line_in s l ≡ Ok (ws, t)) × ((length ws ≤ room) × ((more : List ℕ) × (outcome ls t (k + 1) (room - length ws) ≡ Ok more) × (all ≡ ws ++ more)))
 first_line l ls s k room all e = go (line_in s l) refl e
   where
     go : (r : Result (List ℕ × Section) Cause) → line_in s l ≡ r → outcome_by (outcome ls) k room r ≡ Ok all → (ws : List ℕ) × (t : Section) × (line_in s l ≡ Ok (ws, t)) × ((length ws ≤ room) × ((more : List ℕ) × (outcome ls t (k + 1) (room - length ws) ≡ Ok more) × (all ≡ ws ++ more)))
-    go (Err c) is e = err_ok e
+    go (Err c) is e = cc
     go (Ok p) is e = (p.0, p.1, is, one_line (outcome ls) k room all p.0 p.1 e)
 
 abbrev text_of : List (List ℕ) → List ℕ
@@ -113,7 +112,7 @@ pair_right : {X Y : Type 0} {a b : X × Y} → a ≡ b → a.1 ≡ b.1
 pair_right e = ap (λ p. p.1) e
 
 code_read : (ls : List (List ℕ)) (k room : ℕ) (all : List ℕ) → outcome ls Code k room ≡ Ok all → CodeRead ls room all
-code_read [] k room all e = let none : [] ≡ all = same_ok e in ([], tt, refl, sym none, omega (arith, ap length none))
+code_read [] k room all e = let none : [] ≡ all = cc in ([], tt, refl, sym none, omega (arith, ap length none))
 code_read (l ∷ ls) k room all e =
     let found = first_line l ls Code k room all e in
     let ws = found.0 in
@@ -132,16 +131,16 @@ code_read (l ∷ ls) k room all e =
     )
   where
     statement_of : (o : Option (Option Statement)) (ws : List ℕ) → inside statement_words o ≡ Some (Some ws) → (s : Statement) × (o ≡ Some (Some s)) × (statement_words s ≡ ws)
-    statement_of None ws e = none_some e
-    statement_of (Some None) ws e = none_some (some_same e)
-    statement_of (Some (Some s)) ws e = (s, refl, some_same (some_same e))
+    statement_of None ws e = cc
+    statement_of (Some None) ws e = cc
+    statement_of (Some (Some s)) ws e = (s, refl, cc)
 
 abbrev TasksRead : ℕ → List (List ℕ) → ℕ → List ℕ → Type 0
 TasksRead n ls room all = (es : List Entry) × (ss : List Statement) × (length es ≡ n) × AllByRecursion Formed ss × (text_of ls ≡ flat_map printed_entry es ++ flat_map printed_statement ss) × (all ≡ map entry_word es ++ flat_map statement_words ss) × (length all ≤ room)
 
 tasks_read : (n : ℕ) (ls : List (List ℕ)) (k room : ℕ) (all : List ℕ) → outcome ls (tasks_left n) k room ≡ Ok all → TasksRead n ls room all
 tasks_read zero ls k room all e = let found = code_read ls k room all e in ([], found.0, refl, found.1, found.2, found.3, found.4)
-tasks_read (suc n) [] k room all e = err_ok (sym (ap (λ (s : Section). ended s k) (tasks_some n)) ∙ e)
+tasks_read (suc n) [] k room all e = let z = ap (λ (s : Section). ended s k) (tasks_some n) in cc
 tasks_read (suc n) (l ∷ ls) k room all e =
     let found = first_line l ls (Tasks (suc n)) k room all (ap (λ (s : Section). outcome (l ∷ ls) s k room) (sym (tasks_some n)) ∙ e) in
     let ws = found.0 in
@@ -166,7 +165,7 @@ pub program_read : (text : List ℕ) (room : ℕ) (all : List ℕ) → reading r
 program_read text room all e = go (lines_of text) (lines_joined text) e
   where
     go : (ls : List (List ℕ)) → text_of ls ≡ text → outcome ls Head 1 room ≡ Ok all → (p : Program) × Whole p × (text ≡ printed p) × (all ≡ program_words p) × (length all ≤ room)
-    go [] is e = err_ok e
+    go [] is e = cc
     go (l ∷ ls) is e =
         let found = first_line l ls Head 1 room all e in
         let ws = found.0 in
@@ -189,21 +188,16 @@ same_split xs us ys vs long e = (
   sym (drop_at xs ys (length xs) refl) ∙ ap (drop (length xs)) e ∙ drop_at us vs (length xs) (sym long),
 )
 
-same_cons : {X : Type 0} {x y : X} {xs ys : List X} → ◌≡◌ {A = List X} (x ∷ xs) (y ∷ ys) → (x ≡ y) × (xs ≡ ys)
-same_cons e = ((cc), (cc))
-
-nil_cons : {X P : Type 0} {x : X} {xs : List X} → ◌≡◌ {A = List X} [] (x ∷ xs) → P
-nil_cons e = let z : ◌≡◌ {A = ℕ} 0 1 = cc in absurd (omega arith)
-
 module _ {X : Type 0} (print : X → List ℕ) (back : List ℕ → Option (Option X)) (Good : X → Type 0) (reads : (x : X) → Good x → back (print x) ≡ Some (Some x)) where
   pub map_back : (xs ys : List X) → AllByRecursion Good xs → AllByRecursion Good ys → map print xs ≡ map print ys → xs ≡ ys
   map_back [] [] a b e = refl
-  map_back [] (y ∷ ys) a b e = nil_cons e
-  map_back (x ∷ xs) [] a b e = nil_cons (sym e)
+  map_back [] (y ∷ ys) a b e = cc
+  map_back (x ∷ xs) [] a b e = cc
   map_back (x ∷ xs) (y ∷ ys) a b e =
-      let heads : x ≡ y = some_same (some_same (sym (reads x a.0) ∙ ap back (same_cons e).0 ∙ reads y b.0)) in
-      let tails : xs ≡ ys = map_back xs ys a.1 b.1 (same_cons e).1 in
-      (λ i. heads i ∷ tails i)
+      let p = reads x a.0 in
+      let q = reads y b.0 in
+      let tails = map_back xs ys a.1 b.1 (cc) in
+      cc
 
 all_any : {X : Type 0} (xs : List X) → AllByRecursion (λ (_ : X). Unit {0}) xs
 all_any [] = tt
@@ -212,9 +206,11 @@ all_any (x ∷ xs) = (tt, all_any xs)
 pub same_program : (text : List ℕ) (p q : Program) → Whole p → Whole q → text ≡ printed p → text ≡ printed q → p ≡ q
 same_program text p q one two a b =
     let lines : lines_for p ≡ lines_for q = sym (lines_printed p) ∙ ap lines_of (sym a ∙ b) ∙ lines_printed q in
-    let head : p.head ≡ q.head = some_same (some_same (sym (head_printed p.head) ∙ ap head_line (same_cons lines).0 ∙ head_printed q.head)) in
+    let read = head_printed p.head in
+    let back = head_printed q.head in
+    let head : p.head ≡ q.head = cc in
     let long : length (map printed_entry p.entries) ≡ length (map printed_entry q.entries) = length-map p.entries printed_entry ∙ one.tasks ∙ ap (λ h. h.tasks.value) head ∙ sym two.tasks ∙ sym (length-map q.entries printed_entry) in
-    let parts = same_split (map printed_entry p.entries) (map printed_entry q.entries) (map printed_statement p.code) (map printed_statement q.code) long (same_cons lines).1 in
+    let parts = same_split (map printed_entry p.entries) (map printed_entry q.entries) (map printed_statement p.code) (map printed_statement q.code) long (cc) in
     let entries = map_back printed_entry entry_line (λ _. Unit {0}) (λ e _. entry_printed e) p.entries q.entries (all_any p.entries) (all_any q.entries) parts.0 in
     let code = map_back printed_statement code_line Formed statement_printed p.code q.code one.formed two.formed parts.1 in
     (λ i. record { head = head i; entries = entries i; code = code i })

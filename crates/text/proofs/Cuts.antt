@@ -4,14 +4,12 @@ use borrow.Rule.Slice.PartMut.{put_mid}
 use Rattle.std.proofs.lemmas.List.{drop-drop, length-append, append_assoc, take_more_set, drop-set-lt}
 use Rattle.std.specs.List.{position, position_from}
 use Rattle.std.proofs.lemmas.Iterator.Adapters.{position_from-zero}
-use Rattle.std.proofs.lemmas.Bool.{cond-true, cond-false, le-leb, lt-leb}
+use Rattle.std.proofs.lemmas.Bool.{cond-true, le-leb}
 use Rattle.std.proofs.lemmas.Bool.Decides.{nat_tests}
 use Rattle.text.specs.declared.section.Section.{Section}
 use Rattle.text.specs.declared.refusal.Cause.{Cause}
-use Rattle.text.specs.declared.section.Section.TheVariants.{Head, Tasks, Code}
-use Rattle.text.specs.declared.refusal.Cause.TheVariants.{Grammar, Room}
 use Rattle.text.specs.declared.refusal.Refusal.{Refusal}
-use Rattle.text.specs.Reading.{ends_line, line_len, lines_of, onto, line_in, outcome, outcome_by, ended, prefixed, refused, pasted}
+use Rattle.text.specs.Reading.{ends_line, line_len, lines_of, onto, line_in, outcome, outcome_by, prefixed, pasted}
 
 -- where a line ends that begins n bytes on, by the place of its LF
 abbrev pub end_by : Option ℕ → ℕ → ℕ
@@ -75,14 +73,17 @@ module _ (left : List (List ℕ)) (line : List ℕ) (after : List (List ℕ)) (i
   pub outcome_here : (r : Result (List ℕ × Section) Cause) → line_in s line ≡ r → outcome left s k room ≡ outcome_by (outcome after) k room r
   outcome_here r e = ap (λ (ls : List (List ℕ)). outcome ls s k room) is ∙ ap (outcome_by (outcome after) k room) e
 
-  pub outcome_bad : (c : Cause) → line_in s line ≡ Err c → outcome left s k room ≡ refused c k
-  outcome_bad c e = outcome_here (Err c) e
-
-  pub outcome_full : (ws : List ℕ) (t : Section) → line_in s line ≡ Ok (ws, t) → room < length ws → outcome left s k room ≡ refused Room k
-  outcome_full ws t e full = outcome_here (Ok (ws, t)) e ∙ cond-false (leb (length ws) room) _ _ (lt-leb (length ws) room full)
-
   pub outcome_more : (ws : List ℕ) (t : Section) → line_in s line ≡ Ok (ws, t) → length ws ≤ room → outcome left s k room ≡ prefixed ws (outcome after t (k + 1) (room - length ws))
   outcome_more ws t e fits = outcome_here (Ok (ws, t)) e ∙ cond-true (leb (length ws) room) _ _ (le-leb (length ws) room fits)
+
+  -- with its words counted, what is left comes to what it came to before the line
+  pub counted_on : (count all n : ℕ) (ws : List ℕ) (t : Section) → room ≡ all - count → n ≡ length ws → line_in s line ≡ Ok (ws, t) → length ws ≤ room → more (count + n) (outcome after t (k + 1) (all - (count + n))) ≡ more count (outcome left s k room)
+  counted_on count all n ws t is_left long e fits =
+      let less : all - (count + n) ≡ room - length ws = omega arith in
+      ap (λ (m : ℕ). more (count + m) (outcome after t (k + 1) (all - (count + n)))) long
+      ∙ ap (λ (m : ℕ). more (count + length ws) (outcome after t (k + 1) m)) less
+      ∙ sym (more_prefixed count ws (outcome after t (k + 1) (room - length ws)))
+      ∙ ap (more count) (sym (outcome_more ws t e fits))
 
 -- a line's words written over a buffer: the first, and then those of its triggers
 pub stored_words : (words triggers ys : List ℕ) (at first k : ℕ) → at < length words → ys ≡ triggers → k ≡ length triggers → put_mid (at + 1) k (set words at first) ys ≡ pasted words at (first ∷ triggers)
@@ -93,9 +94,3 @@ stored_words words triggers ys at first k lt is long =
     ∙ ap (λ (l : List ℕ). take at words ++ (first ∷ (l ++ drop k (drop (at + 1) (set words at first))))) is
     ∙ ap (λ (l : List ℕ). take at words ++ (first ∷ (triggers ++ drop k l))) (drop-set-lt (at + 1) words at first (omega arith))
     ∙ ap (λ (l : List ℕ). take at words ++ (first ∷ (triggers ++ l))) (drop-drop k (at + 1) words ∙ ap (λ (j : ℕ). drop j words) n)
-
--- the text ends, and code may not stand there
-pub ended_early : (s : Section) (k n : ℕ) → (s ≡ Code → ⊥) → more n (ended s k) ≡ Err (record { cause = Grammar; line = k })
-ended_early Head k n h = refl
-ended_early (Tasks left) k n h = refl
-ended_early Code k n h = absurd (h refl)

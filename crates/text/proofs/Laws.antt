@@ -4,7 +4,6 @@ use Rattle.grammar.specs.Programs.{Program, Whole, printed, program_words}
 use Rattle.text.specs.declared.refusal.Refusal.{Refusal}
 use Rattle.text.specs.Reading.{reading, counted, written}
 use Rattle.text.specs.Law.{Grammar}
-use Rattle.text.proofs.Writes.{same_ok, err_ok}
 use Rattle.text.proofs.Accepts.{printed_fits, program_read, same_program}
 
 module _ (text start after : List ℕ) (r : Result ℕ Refusal) (answer : r ≡ counted (reading (length start) text)) (left : after ≡ written (reading (length start) text) start) where
@@ -15,11 +14,11 @@ module _ (text start after : List ℕ) (r : Result ℕ Refusal) (answer : r ≡ 
   only_so n e = go (reading (length start) text) refl (sym answer ∙ e)
     where
       go : (o : Result (List ℕ) Refusal) → reading (length start) text ≡ o → counted o ≡ Ok n → (p : Program) × Whole p × (text ≡ printed p) × (n ≡ length (program_words p)) × (after ≡ program_words p ++ drop n start)
-      go (Err x) is e = err_ok e
+      go (Err x) is e = cc
       go (Ok ws) is e =
           let found = program_read text (length start) ws is in
           let same : ws ≡ program_words found.0 = found.3 in
-          let long : length ws ≡ n = same_ok e in
+          let long : length ws ≡ n = cc in
           (found.0, found.1, found.2, sym long ∙ ap length same, (read_so ws is).1 ∙ (λ i. same i ++ drop (long i) start))
 
   pub grammar_holds : Grammar text start after r

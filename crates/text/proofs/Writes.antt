@@ -1,21 +1,15 @@
 -- What the second pass has written so far.
 use Rattle.std.proofs.Common.{◌≡◌, ℕ, ◌+◌, ◌-◌, ◌<◌, ◌≤◌, Bool, true, false, cond, leb, List, [], ◌∷◌, ◌++◌, length, drop, is_ok, Ok, Err, Result, sym, refl, ap, ◌∙◌, arith}
 use native.Mathlib.Nat.{sub-zero}
-use Rattle.std.proofs.lemmas.List.{append_assoc, append-nil, drop-drop, drop_at, take_at, length-append}
+use Rattle.std.proofs.lemmas.List.{append_assoc, drop-drop, drop_at, take_at, length-append}
 use Rattle.std.proofs.lemmas.Bool.{leb-true, true≢false}
 use Rattle.text.specs.declared.section.Section.{Section}
-use Rattle.text.specs.declared.section.Section.TheVariants.{Head, Tasks, Code}
+use Rattle.text.specs.declared.section.Section.TheVariants.{Head}
 use Rattle.text.specs.declared.refusal.Cause.{Cause}
 use Rattle.text.specs.declared.refusal.Cause.TheVariants.{Room}
 use Rattle.text.specs.declared.refusal.Refusal.{Refusal}
-use Rattle.text.specs.Reading.{lines_of, line_in, ended, outcome, outcome_by, prefixed, refused, reading, written, pasted}
+use Rattle.text.specs.Reading.{lines_of, line_in, outcome, outcome_by, prefixed, refused, reading, pasted}
 use Rattle.text.proofs.Cuts.{outcome_here}
-
-pub same_ok : {X Y : Type 0} {x y : X} → ◌≡◌ {A = Result X Y} (Ok x) (Ok y) → x ≡ y
-same_ok e = cc
-
-pub err_ok : {X Y P : Type 0} {x : X} {y : Y} → ◌≡◌ {A = Result X Y} (Err y) (Ok x) → P
-err_ok e = let z : ◌≡◌ {A = ℕ} 0 1 = cc in absurd (omega arith)
 
 -- the words before place i stand in the buffer, and the lines that are left give the others
 pub record Sofar (text start words : List ℕ) (s : Section) (left : List (List ℕ)) (i : ℕ) : Type 0 where
@@ -40,33 +34,17 @@ module _ (o : Section → ℕ → ℕ → Result (List ℕ) Refusal) (k room : �
   one_line ws t e = go (leb (length ws) room) refl e
     where
       led : (r : Result (List ℕ) Refusal) → prefixed ws r ≡ Ok rest → (more : List ℕ) × (r ≡ Ok more) × (rest ≡ ws ++ more)
-      led (Ok more) e = (more, refl, sym (same_ok e))
-      led (Err x) e = err_ok e
+      led (Ok more) e = (more, refl, cc)
+      led (Err x) e = cc
 
       go : (b : Bool) → leb (length ws) room ≡ b → cond b (prefixed ws (o t (k + 1) (room - length ws))) (refused Room k) ≡ Ok rest → (length ws ≤ room) × ((more : List ℕ) × (o t (k + 1) (room - length ws) ≡ Ok more) × (rest ≡ ws ++ more))
       go true fits e = (leb-true (length ws) room fits, led (o t (k + 1) (room - length ws)) e)
-      go false fits e = err_ok e
+      go false fits e = cc
 
 module _ (text start words : List ℕ) (s : Section) (left : List (List ℕ)) (i : ℕ) (so : Sofar text start words s left i) where
-  pub sofar_all : left ≡ [] → words ≡ written (reading (length start) text) start
-  sofar_all past =
-      let last : ended s so.line_number ≡ Ok so.rest = sym (ap (λ (ls : List (List ℕ)). outcome ls s so.line_number (length start - i)) past) ∙ so.goes_on in
-      let none = nothing s so.line_number so.rest last in
-      so.stand
-      ∙ ap (λ (k : ℕ). so.front ++ drop k start) (sym so.long)
-      ∙ ap (λ (r : Result (List ℕ) Refusal). written r start) (sym (so.whole ∙ ap (λ (l : List ℕ). Ok (so.front ++ l)) none ∙ ap Ok (append-nil so.front)))
-    where
-      nothing : (s : Section) (k : ℕ) (ws : List ℕ) → ended s k ≡ Ok ws → ws ≡ []
-      nothing Head k ws e = err_ok e
-      nothing (Tasks n) k ws e = err_ok e
-      nothing Code k ws e = sym (same_ok e)
-
   module _ (line : List ℕ) (after : List (List ℕ)) (is : left ≡ line ∷ after) where
     here : (r : Result (List ℕ × Section) Cause) → line_in s line ≡ r → outcome_by (outcome after) so.line_number (length start - i) r ≡ Ok so.rest
     here r e = sym (outcome_here left line after is s so.line_number (length start - i) r e) ∙ so.goes_on
-
-    pub never_refused : (c : Cause) → line_in s line ≡ Err c → ⊥
-    never_refused c e = err_ok (here (Err c) e)
 
     module _ (ws : List ℕ) (t : Section) (e : line_in s line ≡ Ok (ws, t)) where
       next : (length ws ≤ length start - i) × ((more : List ℕ) × (outcome after t (so.line_number + 1) (length start - i - length ws) ≡ Ok more) × (so.rest ≡ ws ++ more))

@@ -1,4 +1,5 @@
 // A text cut into its lines, each with its LF; what stands behind the last LF is a line that never ended.
+// The library's `split_inclusive` cuts alike, but tells of its lines by a closure; here a contract names those that are left.
 ghost use Rattle.std.specs.Prelude.{◌≡◌, ◌≤◌, length};
 ghost use Rattle.std.specs.Iterator.{YieldsFirstRef, item_count};
 ghost use Rattle.std.specs.List.{position};
@@ -22,6 +23,7 @@ impl<'a> Iterator for TextLines<'a> {
 
     ghost remaining = { item_count (λ s. lines_of s.0.now) };
 
+    #[tactic(auto, using(crate::proofs::Cuts::lines_cut))]
     fn next(&mut self) -> Option<&'a [u8]> {
         if self.0.is_empty() {
             return None;

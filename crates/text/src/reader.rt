@@ -18,7 +18,7 @@ pub fn read(text: &[u8], words: &mut [u32]) -> Result<usize, Refusal>
     read_words(text, words)
 }
 
-// Nothing is written before the whole text is judged.
+// Nothing is written before the whole text is judged. Apart from `read`, so that a wrong body is refused here.
 fn read_words(text: &[u8], words: &mut [u32]) -> Result<usize, Refusal>
     ensures answer { result ≡ counted (reading (length words.old) text.now) }
     ensures after { words.new ≡ written (reading (length words.old) text.now) words.old }
@@ -50,6 +50,7 @@ fn measure(text: &[u8], room: usize) -> Result<usize, Refusal>
         }
         count += words.len();
         section = next;
+        // Told behind the last line too, where `enumerate` would have no number.
         number += 1;
     }
     match section {
@@ -62,6 +63,7 @@ fn measure(text: &[u8], room: usize) -> Result<usize, Refusal>
 }
 
 // Writes the words of a line into the buffer.
+#[tactic(auto, using(crate::proofs::Cuts::stored_words))]
 fn store(words: &mut [u32], at: usize, line: &LineWords)
     requires { at + length (told line.now) ≤ length words.old }
     ensures { words.new ≡ pasted words.old at (told line.now) }
@@ -83,6 +85,7 @@ fn write(text: &[u8], words: &mut [u32])
         let Ok((read, next)) = read_line(section, line) else {
             unreachable!()
         };
+        // By the words so far: what is promised is of the whole buffer that was lent.
         store(words, count, &read);
         count += read.len();
         section = next;

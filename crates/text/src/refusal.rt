@@ -22,6 +22,7 @@ pub struct Refusal {
 }
 
 impl Cause {
+    // A name of the subject says more than a conversion.
     pub fn number(self) -> u32
         ensures { result ≡ number self }
     {

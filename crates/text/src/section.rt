@@ -13,7 +13,7 @@ pub enum Section {
     Code,
 }
 
-// The words of a line, and the section of the line behind it. By a match no section can be without its reader.
+// The words of a line, and the section of the line behind it. A match, so that no section can lack its reader.
 #[tactic(auto, unfolding(crate::specs::Reading::line_in))]
 pub(crate) fn read_line(section: Section, line: &[u8]) -> Result<(LineWords, Section), Cause>
     ensures { told_line result ≡ line_in section line.now }
@@ -35,6 +35,7 @@ fn tasks_left(left: u32) -> Section
     }
 }
 
+// A function for a head and an entry would take the word and what is left, and be no shorter.
 fn read_head(line: &[u8]) -> Result<(LineWords, Section), Cause>
     ensures { told_line result ≡ head_in line.now }
 {

@@ -1,4 +1,4 @@
-// Programs and what the rules make of them: each row has the words, and the number of the refusal and its place.
+// Programs and what the rules make of them: each row has the words, and Ok, or the number of the refusal and its place.
 use both::Both;
 use cases::{END, Full, ONCE_HEAD, SET_HEAD as HEAD, TASK, trigger_cases};
 use lattice::Lattice;
@@ -10,7 +10,7 @@ use std::alloc::Global;
 use std::process::Abort;
 use std::test::Fail;
 
-// A program is accepted, or refused with a number at a place.
+// A program is accepted, or refused with a number at a place: by the numbers that are printed, so that they are tried too.
 type Verdict = Result<(), (u32, usize)>;
 
 static OVER_SET: [(&[u32], Verdict); 142] = [

@@ -6,7 +6,7 @@ use text::read;
 // What each word of a buffer is before a text is read into it.
 const MARK: u32 = 0xdead_beef;
 
-// A buffer of `room` words has the text refused, with this number and line, and is left as it was. `what` is told where that fails.
+// Read into a buffer of `room` words, the text is refused with this number and line, and the buffer is left as it was. `what` is told where that fails.
 pub(crate) fn expect_refusal(
     rt: &(impl Abort + AllocGlobal),
     text: &[u8],

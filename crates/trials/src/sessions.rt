@@ -27,7 +27,7 @@ fn words_are_listed(rt: HostRuntime) -> Result<(), Fail> {
     )
 }
 
-// The first words of what is printed for a program with this label.
+// How what is printed for a program with this label begins.
 fn expect_lattice(rt: &(impl Abort + AllocGlobal), label: u32, printed: &str) -> Result<(), Fail> {
     let text = format!(in rt.alloc(); "lattice {label} cells 1 tasks 0\n")?;
     let answer = session(rt.alloc(), text.as_bytes())?;

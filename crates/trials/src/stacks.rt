@@ -35,7 +35,7 @@ fn expect_join<L: Lattice + Drop>(
     numbers: [u32; 3],
     words: &[u32],
 ) -> Result<(), Fail> {
-    assert_eq!(rt; L::width() as usize, words.len());
+    assert_eq!(rt; usize::from(L::width()), words.len());
     for order in orders(numbers) {
         let Some(value) = gathered::<L>(order) else {
             return Err(Fail::new("they clash"));

@@ -30,6 +30,7 @@ fn count_of(code: Code) -> Bits<15>
     Bits::low(code.get() / 8)
 }
 
+// Named for its contract, which is in the meaning's words.
 fn larger(first: Bits<15>, second: Bits<15>) -> Bits<15>
     ensures { result ≡ largest first second }
 {
@@ -78,7 +79,7 @@ impl Lattice for Versions {
         false
     }
 
-    // Set joins its words in such a line too: one function for both would take the closure, and be no shorter.
+    // Set joins, compares and reads its words in such lines too: a function for both would take the closure, and be no shorter.
     fn join(&mut self, other: Versions) {
         self.counts = array::from_fn(|slot| larger(self.count(slot), other.count(slot)));
     }

@@ -24,7 +24,7 @@ impl Word for Entry {
 
     fn from_word(word: u32) -> Option<Self> {
         match kind(word) {
-            Ok(Kind::Task) => Some(Self {
+            Kind::Task => Some(Self {
                 started: flag(word, 27),
                 place: field(word, 14),
                 argument: field(word, 0),

@@ -1,9 +1,9 @@
 // The fields of a word.
 ghost use Rattle.std.specs.Prelude.{◌≡◌, ◌<◌};
 ghost use Rattle.words.specs.Fields.{clear as clear_of, field as field_of, flag as flag_of, kind as kind_of};
-ghost use Rattle.words.specs.Kinds.{kind_in, told_number};
+ghost use Rattle.words.specs.Kinds.{kind_number};
 
-use crate::kinds::{Kind, UnknownKind};
+use crate::kinds::Kind;
 use bits::Bits;
 
 // The N bits of a word from bit `low` up.
@@ -31,11 +31,10 @@ pub(crate) fn clear<const N: u32>(word: u32, low: u32) -> bool
 }
 
 // The kind of a word, whatever the rest of it says.
-pub fn kind(word: u32) -> Result<Kind, UnknownKind>
-    ensures is { result ≡ kind_in (kind_of word) }
-    ensures number { told_number result ≡ kind_of word }
+pub fn kind(word: u32) -> Kind
+    ensures { kind_number result ≡ kind_of word }
 {
-    Kind::try_from(field::<4>(word, 28).get())
+    Kind::from(field::<4>(word, 28))
 }
 
 // Whether a word that goes by a code takes it from register R, whatever the rest of it says.

@@ -23,7 +23,7 @@ impl Word for Head {
 
     fn from_word(word: u32) -> Option<Self> {
         match kind(word) {
-            Ok(Kind::Head) => Some(Self {
+            Kind::Head => Some(Self {
                 label: field(word, 20),
                 cells: field(word, 10),
                 tasks: field(word, 0),

@@ -16,7 +16,7 @@ pub enum CellOperand {
     Moved(Bits<8>),
 }
 
-// Which code an instruction goes by: the one named, or what register R holds.
+// Which code an instruction goes by: the one named, or what register R holds, which is a code too and no want of one.
 #[derive(Clone, Copy, Debug, PartialEq, Eq)]
 pub enum CodeOperand {
     Fixed(Code),
@@ -47,22 +47,22 @@ impl Word for Instruction {
     // None for a word of another kind, with a spare bit set, or with a code field beside bit 26.
     fn from_word(word: u32) -> Option<Self> {
         match kind(word) {
-            Ok(Kind::End) if clear::<28>(word, 0) => Some(Self::End),
-            Ok(Kind::Put) => Some(Self::Put(CellOperand::of(word), CodeOperand::of(word)?)),
-            Ok(Kind::Get) if clear::<14>(word, 4) && !flag(word, 26) => {
+            Kind::End if clear::<28>(word, 0) => Some(Self::End),
+            Kind::Put => Some(Self::Put(CellOperand::of(word), CodeOperand::of(word)?)),
+            Kind::Get if clear::<14>(word, 4) && !flag(word, 26) => {
                 Some(Self::Get(CellOperand::of(word), field(word, 0)))
             }
-            Ok(Kind::Trig) if clear::<8>(word, 18) && !flag(word, 27) => {
+            Kind::Trig if clear::<8>(word, 18) && !flag(word, 27) => {
                 Some(Self::Trig(CodeOperand::of(word)?))
             }
-            Ok(Kind::Freeze) if clear::<18>(word, 0) && !flag(word, 26) => {
+            Kind::Freeze if clear::<18>(word, 0) && !flag(word, 26) => {
                 Some(Self::Freeze(CellOperand::of(word)))
             }
-            Ok(Kind::If) => Some(Self::If(field(word, 13), field(word, 0))),
-            Ok(Kind::Has) => Some(Self::Has(CellOperand::of(word), CodeOperand::of(word)?)),
-            Ok(Kind::Start) if clear::<19>(word, 9) => Some(Self::Start(field(word, 0))),
-            Ok(Kind::Let) if clear::<10>(word, 18) => Some(Self::Let(field(word, 0))),
-            Ok(Kind::Loop) => Some(Self::Loop(field(word, 13), field(word, 0))),
+            Kind::If => Some(Self::If(field(word, 13), field(word, 0))),
+            Kind::Has => Some(Self::Has(CellOperand::of(word), CodeOperand::of(word)?)),
+            Kind::Start if clear::<19>(word, 9) => Some(Self::Start(field(word, 0))),
+            Kind::Let if clear::<10>(word, 18) => Some(Self::Let(field(word, 0))),
+            Kind::Loop => Some(Self::Loop(field(word, 13), field(word, 0))),
             _ => None,
         }
     }

@@ -2,48 +2,51 @@
 ghost use Rattle.std.specs.Prelude.{◌≡◌, ◌*◌, ◌^◌};
 ghost use Rattle.words.specs.Kinds.{kind_in, kind_number};
 
+use bits::Bits;
+
+// Four bits have sixteen values, so the four kinds that no accepted program has are among them.
 #[derive(Clone, Copy, Debug, PartialEq, Eq)]
 pub enum Kind {
     End = 0,
-    Put = 1,
-    Get = 2,
-    Trig = 3,
-    Freeze = 4,
-    If = 5,
-    Has = 6,
-    Start = 7,
-    Let = 8,
-    Loop = 9,
-    Task = 14,
-    Head = 15,
+    Put,
+    Get,
+    Trig,
+    Freeze,
+    If,
+    Has,
+    Start,
+    Let,
+    Loop,
+    UnusedTen,
+    UnusedEleven,
+    UnusedTwelve,
+    UnusedThirteen,
+    Task,
+    Head,
 }
 
-// A number that no kind has.
-#[derive(Clone, Copy, Debug, PartialEq, Eq)]
-pub struct UnknownKind {
-    pub number: u32,
-}
+impl From<Bits<4>> for Kind {
+    ghost from_gives = { λ bits kind. kind ≡ kind_in bits.value };
 
-impl TryFrom<u32> for Kind {
-    type Error = UnknownKind;
-
-    ghost try_from_gives = { λ number told. told ≡ kind_in number };
-
-    fn try_from(number: u32) -> Result<Kind, UnknownKind> {
-        match number {
-            0 => Ok(Kind::End),
-            1 => Ok(Kind::Put),
-            2 => Ok(Kind::Get),
-            3 => Ok(Kind::Trig),
-            4 => Ok(Kind::Freeze),
-            5 => Ok(Kind::If),
-            6 => Ok(Kind::Has),
-            7 => Ok(Kind::Start),
-            8 => Ok(Kind::Let),
-            9 => Ok(Kind::Loop),
-            14 => Ok(Kind::Task),
-            15 => Ok(Kind::Head),
-            _ => Err(UnknownKind { number }),
+    // No derive leads from a number to a variant.
+    fn from(bits: Bits<4>) -> Kind {
+        match bits.get() {
+            0 => Kind::End,
+            1 => Kind::Put,
+            2 => Kind::Get,
+            3 => Kind::Trig,
+            4 => Kind::Freeze,
+            5 => Kind::If,
+            6 => Kind::Has,
+            7 => Kind::Start,
+            8 => Kind::Let,
+            9 => Kind::Loop,
+            10 => Kind::UnusedTen,
+            11 => Kind::UnusedEleven,
+            12 => Kind::UnusedTwelve,
+            13 => Kind::UnusedThirteen,
+            14 => Kind::Task,
+            _ => Kind::Head,
         }
     }
 }

@@ -14,7 +14,7 @@ pub use entry::Entry;
 pub use fields::{from_register, kind};
 pub use head::Head;
 pub use instruction::{CellOperand, CodeOperand, Instruction};
-pub use kinds::{Kind, UnknownKind};
+pub use kinds::Kind;
 pub use word::Word;
 
 // A place is the index of a word in its program.

@@ -1,4 +1,4 @@
-// What one word of a program says, and how it is written as that word.
+// What one word of a program says, and how it is written as that word. A trait of our own, since its law ties both ways together.
 ghost use Rattle.std.specs.Prelude.{◌≡◌, ℕ, ◌<◌, ◌^◌, Some, Option};
 ghost use Rattle.words.specs.ReadBack.{ReadBack};
 

@@ -8,10 +8,10 @@ by_bytes : (word name : List ℕ) → length word ≡ length name → HasBytesAt
 by_bytes word name long bytes = ap keyword_in (sym (text_from_reads word name long bytes))
 
 pub returns-in-freeze : goal.returns-in-freeze
-returns-in-freeze c = by_bytes c.args.word.now (codes "freeze") (omega arith) (omega arith, (omega arith, (omega arith, (omega arith, (omega arith, (omega arith, tt))))))
+returns-in-freeze c = by_bytes c.args.word.now (codes "freeze") (omega arith) (grind arith)
 
 pub returns-in-start : goal.returns-in-start
-returns-in-start c = by_bytes c.args.word.now (codes "start") (omega arith) (omega arith, (omega arith, (omega arith, (omega arith, (omega arith, tt)))))
+returns-in-start c = by_bytes c.args.word.now (codes "start") (omega arith) (grind arith)
 
 pub returns-in-loop : goal.returns-in-loop
-returns-in-loop c = by_bytes c.args.word.now (codes "loop") (omega arith) (omega arith, (omega arith, (omega arith, (omega arith, tt))))
+returns-in-loop c = by_bytes c.args.word.now (codes "loop") (omega arith) (grind arith)
