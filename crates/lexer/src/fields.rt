@@ -3,16 +3,16 @@ ghost use Rattle.std.specs.Prelude.{◌≡◌, ℕ, ◌+◌, List, IfSome, IfNon
 ghost use Rattle.std.specs.Str.{bytes_eq};
 ghost use Rattle.lexer.specs.Fields.{Field as FieldOf, stands, ends, field_at, first_word, word_field, reached, kept, nothing, then, number_field, cell_field, code_field};
 ghost use Rattle.lexer.specs.Reading.{begun};
-ghost use Rattle.lexer.specs.Tokens.{spoken, between};
+ghost use Rattle.lexer.specs.Tokens.{placed, spoken, between};
 
-use crate::{Token, next_token};
+use crate::{Lexeme, Token, next_token};
 use words::{Bits, CellOperand, CodeOperand};
 
 // What a field or a line says, if its numbers fit their bits. It waits until the grammar of the whole line is known.
 pub type Fitting<T> = Option<T>;
 
-// A line, and how far it has been read. The line never changes: each contract that lends a cursor says so. Where `word` or a
-// field's read answers none, the line is to be refused, and it is not told where the cursor stands.
+// A line, and how far it has been read. The line never changes, and where nothing is read the place does not either: each
+// contract that lends a cursor says so.
 #[derive(Clone, Copy, Debug, PartialEq, Eq)]
 pub struct Cursor<'a> {
     line: &'a [u8],
@@ -74,22 +74,36 @@ impl<'a> Cursor<'a> {
         ensures line { self.new.line.now ≡ self.old.line.now }
         ensures stays { IfNone result (self.new.at ≡ self.old.at) }
     {
-        if !self.is_at(b' ') {
-            return None;
-        }
-        let lexeme = next_token(self.line, self.at + 1)?;
-        *self = Cursor::new(self.line, lexeme.next);
-        Some(lexeme.token)
+        let Lexeme { token, next, .. } = self.ahead()?;
+        *self = Cursor::new(self.line, next);
+        Some(token)
     }
 
     // A field that is the word `name`.
     pub fn word(&mut self, name: &[u8]) -> Option<()>
         ensures is { reached result self.new.at ≡ word_field name.now self.old.line.now self.old.at }
         ensures line { self.new.line.now ≡ self.old.line.now }
+        ensures stays { IfNone result (self.new.at ≡ self.old.at) }
     {
-        match self.token()? {
-            Token::Word(word) if spells(word, name) => Some(()),
+        let lexeme = self.ahead()?;
+        match lexeme.token {
+            Token::Word(word) if spells(word, name) => {
+                *self = Cursor::new(self.line, lexeme.next);
+                Some(())
+            }
             _ => None,
+        }
+    }
+
+    // The field that follows one space, while the cursor stays.
+    fn ahead(&self) -> Option<Lexeme<'a>>
+        ensures is { placed result ≡ field_at self.now.line.now self.now.at }
+        ensures begins { IfSome result (λ x. x.place ≡ self.now.at + 1) }
+    {
+        if self.is_at(b' ') {
+            next_token(self.line, self.at + 1)
+        } else {
+            None
         }
     }
 }
@@ -100,7 +114,8 @@ pub trait Field: Drop {
 
     fn read(cursor: &mut Cursor<'_>) -> Option<Fitting<Self>>
         ensures is { kept cursor.new.at result ≡ reads cursor.old.line.now cursor.old.at }
-        ensures line { cursor.new.line.now ≡ cursor.old.line.now };
+        ensures line { cursor.new.line.now ≡ cursor.old.line.now }
+        ensures stays { IfNone result (cursor.new.at ≡ cursor.old.at) };
 }
 
 // A number for a field of N bits.
@@ -108,10 +123,13 @@ impl<const N: u32> Field for Bits<N> {
     ghost reads = { number_field N };
 
     fn read(cursor: &mut Cursor<'_>) -> Option<Fitting<Bits<N>>> {
-        match cursor.token()? {
-            Token::Number(n) => Some(Bits::new(n)),
-            _ => None,
-        }
+        let lexeme = cursor.ahead()?;
+        let number = match lexeme.token {
+            Token::Number(n) => Bits::new(n),
+            _ => return None,
+        };
+        cursor.at = lexeme.next;
+        Some(number)
     }
 }
 
@@ -120,11 +138,14 @@ impl Field for CellOperand {
     ghost reads = { cell_field };
 
     fn read(cursor: &mut Cursor<'_>) -> Option<Fitting<CellOperand>> {
-        match cursor.token()? {
-            Token::Number(n) => Some(Bits::new(n).map(CellOperand::Fixed)),
-            Token::PlusCell(n) => Some(Bits::new(n).map(CellOperand::Moved)),
-            _ => None,
-        }
+        let lexeme = cursor.ahead()?;
+        let cell = match lexeme.token {
+            Token::Number(n) => Bits::new(n).map(CellOperand::Fixed),
+            Token::PlusCell(n) => Bits::new(n).map(CellOperand::Moved),
+            _ => return None,
+        };
+        cursor.at = lexeme.next;
+        Some(cell)
     }
 }
 
@@ -133,11 +154,14 @@ impl Field for CodeOperand {
     ghost reads = { code_field };
 
     fn read(cursor: &mut Cursor<'_>) -> Option<Fitting<CodeOperand>> {
-        match cursor.token()? {
-            Token::Number(n) => Some(Bits::new(n).map(CodeOperand::Fixed)),
-            Token::Register => Some(Some(CodeOperand::Register)),
-            _ => None,
-        }
+        let lexeme = cursor.ahead()?;
+        let code = match lexeme.token {
+            Token::Number(n) => Bits::new(n).map(CodeOperand::Fixed),
+            Token::Register => Some(CodeOperand::Register),
+            _ => return None,
+        };
+        cursor.at = lexeme.next;
+        Some(code)
     }
 }
 
@@ -146,8 +170,12 @@ impl<X: Field, Y: Field> Field for (X, Y) {
     ghost reads = { then X.reads Y.reads };
 
     fn read(cursor: &mut Cursor<'_>) -> Option<Fitting<(X, Y)>> {
+        let start = cursor.at;
         let first = X::read(cursor)?;
-        let second = Y::read(cursor)?;
+        let Some(second) = Y::read(cursor) else {
+            cursor.at = start;
+            return None;
+        };
         Some(first.zip(second))
     }
 }
