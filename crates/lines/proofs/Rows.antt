@@ -1,13 +1,11 @@
 -- A row of codes, read one by one.
-use Rattle.std.proofs.Common.{◌≡◌, ℕ, zero, suc, ◌+◌, ◌-◌, ◌<◌, ◌≤◌, true, false, List, [], ◌∷◌, ◌++◌, map, length, IfSome, Some, None, Option, sym, refl, ap, ◌∙◌, arith, length-append}
+use Rattle.std.proofs.Common.{◌≡◌, ℕ, zero, suc, ◌+◌, ◌-◌, ◌<◌, ◌≤◌, true, false, List, [], ◌∷◌, ◌++◌, map, Some, None, Option, sym, refl, ap, ◌∙◌, arith}
 use Rattle.std.specs.Option.{option_map}
 use Rattle.std.proofs.lemmas.List.{append_assoc, append-nil}
 use Rattle.std.proofs.lemmas.Bool.{cond-true, cond-false}
-use Rattle.arrayvec.specs.ArrayVec.{ArrayVec}
 use Rattle.words.specs.declared.instruction.CodeOperand.{CodeOperand}
 use Rattle.lexer.specs.Fields.{Field, stands, code_field}
 use Rattle.lines.specs.Forms.{ahead, before, firstly, row_at, trigger, row_words, stored}
-use Rattle.lines.specs.Rows.{words_in}
 
 -- words in front of those of a row
 abbrev pub joined : Option (List ℕ) → Option (List ℕ) → Option (List ℕ)
@@ -77,10 +75,3 @@ module _ (i : ℕ) (line : List ℕ) (at : ℕ) (words : Option (List ℕ)) {who
 
   pub row_over : stands line at 32 ≡ false → Some (words, at) ≡ whole
   row_over e = all_read (row_ends (8 - i) line at e)
-
--- a row grows by a word at most
-pub few_more : (n : ℕ) (words more : Option (ArrayVec ℕ)) (v : Option CodeOperand) → IfSome words (λ ws. length ws.items ≤ n) → words_in more ≡ stored (words_in words) v → IfSome more (λ ws. length ws.items ≤ n + 1)
-few_more n words None v few e = tt
-few_more n None (Some ws) v few e = cc
-few_more n (Some old) (Some ws) None few e = cc
-few_more n (Some old) (Some ws) (Some v) few e = let same : ws.items ≡ old.items ++ (trigger v ∷ []) = cc in omega (arith, few, ap length same, length-append {A = ℕ})

@@ -1,5 +1,5 @@
 -- What a line says: nothing where it breaks the grammar, and no value where a number is too large for its field.
-use Rattle.std.specs.Prelude.{ℕ, Bool, true, false, cond, List, [], ◌∷◌, map, length, Some, None, codes, Option, Ok, Err, Result}
+use Rattle.std.specs.Prelude.{ℕ, Bool, true, false, cond, List, [], ◌∷◌, map, length, take, Some, None, codes, Option, Ok, Err, Result}
 use Rattle.std.specs.Option.{option_map}
 use Rattle.std.specs.Str.{bytes_eq}
 use Rattle.bits.specs.declared.Bits.{Bits}
@@ -27,6 +27,12 @@ abbrev pub judged : {X : Type 0} → Option (Option X) → Result X LineError
 judged None = Err Grammar
 judged (Some None) = Err Range
 judged (Some (Some x)) = Ok x
+
+-- what a line said that was judged so
+abbrev pub unjudged : {X : Type 0} → Result X LineError → Option (Option X)
+unjudged (Ok x) = Some (Some x)
+unjudged (Err Grammar) = None
+unjudged (Err Range) = Some None
 
 -- what is made of a value, where there is one
 abbrev pub inside : {X Y : Type 0} → (X → Y) → Option (Option X) → Option (Option Y)
@@ -136,7 +142,7 @@ code_line line = code_from line (first_word line)
 
 -- the words that a line was read to
 abbrev pub told : LineWords → List ℕ
-told w = w.first ∷ w.triggers.items
+told w = w.first ∷ take w.count w.triggers
 
 abbrev pub words_told : Result LineWords LineError → Result (List ℕ) LineError
 words_told (Ok w) = Ok (told w)

@@ -6,13 +6,16 @@ ghost use Rattle.std.specs.Option.{option_map};
 ghost use Rattle.words.specs.Instructions.{instruction_word};
 ghost use Rattle.lexer.specs.Fields.{both, then, cell_field};
 ghost use Rattle.lines.specs.Forms.{lastly};
-ghost use Rattle.lines.specs.Rows.{trigger_field, get_told};
-ghost use Rattle.lines.specs.Lines.{inside, judged, head_of, head_fields, head_line, started_by, entry_of, number_pair, entry_line, keyword_in, told, words_told, statement_words, statement_by, code_line};
+ghost use Rattle.lines.specs.Rows.{trigger_field, words_in, get_told};
+ghost use Rattle.lines.specs.Lines.{inside, judged, unjudged, head_of, head_fields, head_line, started_by, entry_of, number_pair, entry_line, keyword_in, told, words_told, statement_words, statement_by, code_line};
 
+use crate::trigger_row::row;
 use crate::triggers::Triggers;
 use lexer::fields::{Cursor, Field, Fitting, first_word, spells};
 use words::{Bits, CellOperand, Entry, Head, Instruction, Word};
 
+mod accessors;
+mod trigger_row;
 mod triggers;
 pub mod wording;
 
@@ -59,7 +62,9 @@ pub fn entry_line(line: &[u8]) -> Result<Entry, LineError>
 pub fn code_line(line: &[u8]) -> Result<LineWords, LineError>
     ensures { words_told result ≡ judged (inside statement_words (code_line line.now)) }
 {
-    judged(code_in(line))
+    let (word, cursor) = first_word(line).ok_or(LineError::Grammar)?;
+    let keyword = Keyword::named(word).ok_or(LineError::Grammar)?;
+    statement(keyword, cursor)
 }
 
 fn judged<T: Drop>(said: Option<Fitting<T>>) -> Result<T, LineError>
@@ -136,14 +141,6 @@ fn started_by(word: &[u8]) -> Option<bool>
     }
 }
 
-fn code_in(line: &[u8]) -> Option<Fitting<LineWords>>
-    ensures { inside told result ≡ inside statement_words (code_line line.now) }
-{
-    let (word, cursor) = first_word(line)?;
-    let keyword = Keyword::named(word)?;
-    statement(keyword, cursor)
-}
-
 impl Keyword {
     fn named(word: &[u8]) -> Option<Keyword>
         ensures { result ≡ keyword_in word.now }
@@ -171,29 +168,46 @@ fn last<F: Field>(mut cursor: Cursor<'_>) -> Option<Fitting<F>>
     cursor.is_done().then_some(said)
 }
 
+// The fields with which a line ends, or why the line is refused.
+#[tactic(auto, using(crate::proofs::Verdicts::said_again))]
+fn fields<F: Field>(cursor: Cursor<'_>) -> Result<F, LineError>
+    ensures { unjudged result ≡ lastly F.reads cursor.entry.line.now cursor.entry.at }
+{
+    judged(last(cursor))
+}
+
 // A line of code behind its first word: its fields are cells C, codes V, numbers N, places P and tasks T. A match, so that no keyword can lack its fields.
-#[tactic(auto, using(crate::proofs::Gets::get_words))]
-fn statement(keyword: Keyword, cursor: Cursor<'_>) -> Option<Fitting<LineWords>>
-    ensures { inside told result ≡ inside statement_words (statement_by keyword cursor.entry.line.now cursor.entry.at) }
+#[tactic(auto, using(crate::proofs::Gets::get_words, crate::proofs::Verdicts::refused_still))]
+fn statement(keyword: Keyword, cursor: Cursor<'_>) -> Result<LineWords, LineError>
+    ensures { words_told result ≡ judged (inside statement_words (statement_by keyword cursor.entry.line.now cursor.entry.at)) }
 {
     match keyword {
-        Keyword::End => Some(last(cursor)?.map(|()| single(Instruction::End))),
-        Keyword::Put => Some(last(cursor)?.map(|(c, v)| single(Instruction::Put(c, v)))),
+        Keyword::End => fields(cursor).map(|()| single(Instruction::End)),
+        Keyword::Put => fields(cursor).map(|(c, v)| single(Instruction::Put(c, v))),
         Keyword::Get => get_line(cursor),
-        Keyword::Freeze => Some(last(cursor)?.map(|c| single(Instruction::Freeze(c)))),
-        Keyword::If => Some(last(cursor)?.map(|(n, p)| single(Instruction::If(n, p)))),
-        Keyword::Has => Some(last(cursor)?.map(|(c, v)| single(Instruction::Has(c, v)))),
-        Keyword::Start => Some(last(cursor)?.map(|t| single(Instruction::Start(t)))),
-        Keyword::Let => Some(last(cursor)?.map(|v| single(Instruction::Let(v)))),
-        Keyword::Loop => Some(last(cursor)?.map(|(n, p)| single(Instruction::Loop(n, p)))),
+        Keyword::Freeze => fields(cursor).map(|c| single(Instruction::Freeze(c))),
+        Keyword::If => fields(cursor).map(|(n, p)| single(Instruction::If(n, p))),
+        Keyword::Has => fields(cursor).map(|(c, v)| single(Instruction::Has(c, v))),
+        Keyword::Start => fields(cursor).map(|t| single(Instruction::Start(t))),
+        Keyword::Let => fields(cursor).map(|v| single(Instruction::Let(v))),
+        Keyword::Loop => fields(cursor).map(|(n, p)| single(Instruction::Loop(n, p))),
     }
 }
 
-// `get C V` with one to eight codes
-fn get_line(cursor: Cursor<'_>) -> Option<Fitting<LineWords>>
-    ensures { inside told result ≡ inside get_told (lastly (then cell_field trigger_field) cursor.entry.line.now cursor.entry.at) }
+// `get C V` with one to eight codes. Not inlined, since a row is made word by word: where its words and those of a single
+// instruction are one variable, both are copied in pieces.
+#[inline(never)]
+fn get_line(mut cursor: Cursor<'_>) -> Result<LineWords, LineError>
+    ensures { words_told result ≡ judged (inside get_told (lastly (then cell_field trigger_field) cursor.entry.line.now cursor.entry.at)) }
 {
-    Some(last::<(CellOperand, Triggers)>(cursor)?.map(|(cell, triggers)| triggers.behind(cell)))
+    let cell = CellOperand::read(&mut cursor).ok_or(LineError::Grammar)?;
+    let triggers = row(&mut cursor).ok_or(LineError::Grammar)?;
+    if !cursor.is_done() {
+        return Err(LineError::Grammar);
+    }
+    let cell = cell.ok_or(LineError::Range)?;
+    let triggers = triggers.ok_or(LineError::Range)?;
+    Ok(triggers.behind(cell))
 }
 
 // The words of an instruction that has no triggers.
