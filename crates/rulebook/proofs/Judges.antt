@@ -16,23 +16,23 @@ use Rattle.rulebook.specs.Judgement.{first_broken, refused_or, judged_by, judged
 use Rattle.rulebook.proofs.Firsts.{First, first_some, first_none, first_here, first_nowhere}
 
 -- behind the last word there is no code and no task
-no_code : (ws : List ℕ) (p : ℕ) → length ws ≤ p → in_code ws p ≡ false
+pub no_code : (ws : List ℕ) (p : ℕ) → length ws ≤ p → in_code ws p ≡ false
 no_code ws p l = and_right (ltb (tasks ws) p) (ltb p (length ws)) (le-ltb p (length ws) l)
 
-no_task : (ws : List ℕ) (p : ℕ) → length ws ≤ p → in_tasks ws p ≡ false
+pub no_task : (ws : List ℕ) (p : ℕ) → length ws ≤ p → in_tasks ws p ≡ false
 no_task ws p l = and_right (leb 1 p) (leb p (tasks ws) && ltb p (length ws)) (and_right (leb p (tasks ws)) (ltb p (length ws)) (le-ltb p (length ws) l))
 
-code_past : (ws : List ℕ) (p : ℕ) → length ws ≤ p → code_at ws p ≡ None
+pub code_past : (ws : List ℕ) (p : ℕ) → length ws ≤ p → code_at ws p ≡ None
 unfolding code_at
 code_past ws p l = ap (λ b. cond b (instruction_in (get_or ws p 0)) None) (no_code ws p l)
 
-entry_past : (ws : List ℕ) (p : ℕ) → length ws ≤ p → entry_at ws p ≡ None
+pub entry_past : (ws : List ℕ) (p : ℕ) → length ws ≤ p → entry_at ws p ≡ None
 unfolding entry_at
 entry_past ws p l = ap (λ b. cond b (entry_in (get_or ws p 0)) None) (no_task ws p l)
 
 module _ (M : Meaning) (ws : List ℕ) where
   -- no rule is broken behind the word count
-  past : (k : Rule) (p : ℕ) → length ws < p → breaks M k ws p ≡ false
+  pub past : (k : Rule) (p : ℕ) → length ws < p → breaks M k ws p ≡ false
   past rule.WordCount p l = and_left (eqb p 0) _ (ne_eqb p 0 (λ e. omega arith))
   past rule.Head p l = and_left (eqb p 0) _ (ne_eqb p 0 (λ e. omega arith))
   past rule.Lattice p l = and_left (eqb p 0) _ (ne_eqb p 0 (λ e. omega arith))
@@ -50,7 +50,7 @@ module _ (M : Meaning) (ws : List ℕ) where
     | inr l ↦ past k p (omega arith)
   ]
 
-  unbroken : (k : Rule) → Kept M ws k → first_broken M ws k ≡ None
+  pub unbroken : (k : Rule) → Kept M ws k → first_broken M ws k ≡ None
   unfolding first_broken
   unbroken k f = first_nowhere (breaks M k ws) (suc (length ws)) 0 (λ p l m. f p)
 
@@ -58,7 +58,7 @@ module _ (M : Meaning) (ws : List ℕ) where
   unfolding first_broken
   found k p e = first_some (breaks M k ws) (suc (length ws)) 0 p e
 
-  finds : (k : Rule) (p : ℕ) → First (breaks M k ws) 0 p → first_broken M ws k ≡ Some p
+  pub finds : (k : Rule) (p : ℕ) → First (breaks M k ws) 0 p → first_broken M ws k ≡ Some p
   unfolding first_broken
   finds k p f = elim (cases_lt p (suc (length ws))) [
     | inl l ↦ first_here (breaks M k ws) (suc (length ws)) 0 p (omega arith) f

@@ -24,7 +24,7 @@ head_of w small h = grind (arith, nat_tests, field_is 20 w h.label, field_is 10 
 pub entry_of : (w : ℕ) → w < 2 ^ 32 → EntryOf w (entry_in w)
 entry_of w small e = grind (arith, nat_tests, field_is 14 w e.place, field_is 0 w e.argument)
 
-instruction_written : (w : ℕ) (i : Instruction) → instruction_word i ≡ w → instruction_in w ≡ Some i
+pub instruction_written : (w : ℕ) (i : Instruction) → instruction_word i ≡ w → instruction_in w ≡ Some i
 instruction_written w End e = grind (arith, nat_tests)
 instruction_written w (Put (cell.Fixed c) (code.Fixed v)) e = grind (arith, nat_tests, field_is 18 w c, field_is 0 w v)
 instruction_written w (Put (cell.Fixed c) code.Register) e = grind (arith, nat_tests, field_is 18 w c)
@@ -57,7 +57,7 @@ module _ (w : ℕ) (small : w < 2 ^ 32) (i : Instruction) where
   abbrev Back : Option Instruction → Type 0
   Back o = o ≡ Some i → instruction_word i ≡ w
 
-  instruction_read : Back (instruction_in w)
+  pub instruction_read : Back (instruction_in w)
   instruction_read =
       or_else Back w 0 _ _ (λ k e. grind (arith, nat_tests))
       (or_else Back w 1 _ _ (λ k e. grind (arith, nat_tests, with_code_some))
