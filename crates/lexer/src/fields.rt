@@ -11,8 +11,8 @@ use words::{Bits, CellOperand, CodeOperand};
 // What a field or a line says, if its numbers fit their bits. It waits until the grammar of the whole line is known.
 pub type Fitting<T> = Option<T>;
 
-// A line, and how far it has been read. The line never changes, and where nothing is read the place does not either: each
-// contract that lends a cursor says so.
+// A line, and how far it has been read. The line never changes, and where a field cannot be read the place does not either: each
+// contract here that lends a cursor says so.
 #[derive(Clone, Copy, Debug, PartialEq, Eq)]
 pub struct Cursor<'a> {
     line: &'a [u8],
